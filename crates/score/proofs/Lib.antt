@@ -1,0 +1,5 @@
+pub mod Table
+pub mod Bits
+pub mod Entries
+pub mod Laws
+pub mod Examples
