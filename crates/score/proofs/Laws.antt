@@ -87,6 +87,10 @@ score-lt r k h p = largest-lt (reaches r) 1024 k h (λ j l b. misses-higher r k 
 pub score-below : (r : Float) → le one r ≡ false → scoreOf r ≡ 0
 score-below r h = let l = score-lt r 1 (lit< tt) (misses-higher r 0 1 (omega arith) (below-misses r h)) in omega arith
 
+-- two answers that meet the contract of `score` are equal
+pub score-unique : (r : Float) (a b : ℕ) → a ≡ scoreOf r → b ≡ scoreOf r → a ≡ b
+score-unique r a b p q = p ∙ sym q
+
 -- ---- a threshold among the values
 reaches-from-one : (v : Float) (k : ℕ) → reaches v k ≡ true → le one v ≡ true
 reaches-from-one v k r = go (le one v) (below-misses v)
