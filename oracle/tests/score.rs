@@ -48,8 +48,7 @@ fn the_sources_hold_the_exact_table() {
 fn score_follows_log10() {
     let table = thresholds();
     assert_eq!(table.len(), 1025);
-    let just_below = |bits| table.iter().any(|&t| bits < t && t - bits <= 4);
-    let (mut tried, mut rounded_up) = (0u32, 0u32);
+    let (mut tried, mut rounded_up, mut farthest, mut largest) = (0u32, 0u32, 0, 0f32);
     for bits in 0.5f32.to_bits()..=20f32.to_bits() {
         let ratio = f32::from_bits(bits);
         let score = score(&table, ratio);
@@ -59,15 +58,23 @@ fn score_follows_log10() {
             "{ratio}: score {score} is {exact} below"
         );
         let original = 1024.0 * ratio.log10().clamp(0.0, 1.0) - score as f32;
-        if !(0.0..1.0).contains(&original) {
-            assert!(
-                just_below(bits) && original < 1.0001,
-                "{ratio}: score {score} is {original} below"
-            );
+        assert!(
+            original >= 0.0,
+            "{ratio}: score {score} is {original} below"
+        );
+        largest = largest.max(original);
+        if original >= 1.0 {
+            if rounded_up == 0 {
+                println!("the first that log10 rounds up: {ratio}, bits {bits:#x}");
+            }
             rounded_up += 1;
+            farthest = farthest.max(table[score + 1] - bits);
         }
         tried += 1;
     }
-    println!("{tried} ratios; at {rounded_up} of them log10 rounds up to the next 1,024th");
-    assert!(rounded_up < 2 * 1025);
+    println!(
+        "{tried} ratios; log10 rounds up to the next 1,024th at {rounded_up}, at most {farthest} floats below it"
+    );
+    println!("the largest distance is {largest} / 1,024");
+    assert!(farthest <= 4 && largest < 1.0001);
 }

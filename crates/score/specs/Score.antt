@@ -6,7 +6,7 @@ use lib.Dec.{leb}
 use lib.Ieee.{Float, nan, inf, fin, binary32, up, down, ofBits}
 
 -- 10^k ≤ r^1024. A finite r is m · 2^e, that is m · up e / down e, so both sides are multiplied by (down e)^1024.
--- NaN and what is below 0 reach nothing, as what is below 1 does; plus infinity reaches every power.
+-- A negative r reaches nothing, though its even power may be large: it is below 1. Nor does NaN. Plus infinity reaches every power.
 unfoldable pub reaches : Float → ℕ → Bool
 reaches nan k = false
 reaches (inf s) k = not s
