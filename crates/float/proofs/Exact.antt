@@ -1,0 +1,92 @@
+-- The definition of the fused operation, on the bits' parts.
+use mathlib.Core.Path.{_≡_, refl, sym, ap, ap₂, _∙_, subst}
+use mathlib.Core.Logic.{_⊎_, inl, inr}
+use Prim.Native.Nat.{ℕ, zero, suc, _+_, _*_, _%_, _^_, _<_}
+use native.Mathlib.Nat.{lt-irrefl, mul-assoc, mul-comm, mul-left-comm, mul-pos}
+use mathlib.Core.Bool.{Bool}
+use lib.Dec.{T}
+use lib.Pow.{pow-add, pow-pos}
+use lib.IntN.{ℤ}
+use lib.Ieee.{Float, nan, inf, fin, binary32, unlike, up, down, sum, fits}
+use lib.Ieee.Fits.{down-pos}
+use Rattle.float.specs.declared.Rounded.{Rounded}
+use Rattle.float.specs.declared.Rounded.the-variants.{Nothing}
+use Rattle.float.specs.Inside.{fieldOf, signOf, bitsOf, fusedBitsOf, M, Q}
+use Rattle.float.specs.Finite.{rounded}
+use Rattle.float.specs.Fused.{fusedOf}
+use Rattle.float.proofs.Align.{sum-same}
+use Rattle.float.proofs.Decode.{Decoded, decoded}
+
+-- ---- an operand that is not finite
+clash : {X : Type 0} (x : ℕ) → x < 255 → x ≡ 255 → X
+clash x h e = absurd (lt-irrefl 255 (subst (λ (z : ℕ). z < 255) e h))
+
+pub no-first : (a b c : Float) → T (fits binary32 a) → fieldOf (bitsOf a) ≡ 255 → Nothing ≡ fusedOf a b c
+unfolding fusedOf
+no-first nan b c t e = refl
+no-first (inf s) b c t e = refl
+no-first (fin s m d) b c t e = clash (fieldOf (bitsOf (fin s m d))) (decoded (fin s m d) t .0) e
+
+pub no-second : (a b c : Float) → T (fits binary32 b) → fieldOf (bitsOf b) ≡ 255 → Nothing ≡ fusedOf a b c
+unfolding fusedOf
+no-second nan b c t e = refl
+no-second (inf s) b c t e = refl
+no-second (fin s m d) nan c t e = refl
+no-second (fin s m d) (inf u) c t e = refl
+no-second (fin s m d) (fin u n g) c t e = clash (fieldOf (bitsOf (fin u n g))) (decoded (fin u n g) t .0) e
+
+pub no-third : (a b c : Float) → T (fits binary32 c) → fieldOf (bitsOf c) ≡ 255 → Nothing ≡ fusedOf a b c
+unfolding fusedOf
+no-third nan b c t e = refl
+no-third (inf s) b c t e = refl
+no-third (fin s m d) nan c t e = refl
+no-third (fin s m d) (inf u) c t e = refl
+no-third (fin s m d) (fin u n g) nan t e = refl
+no-third (fin s m d) (fin u n g) (inf v) t e = refl
+no-third (fin s m d) (fin u n g) (fin v p h) t e = clash (fieldOf (bitsOf (fin v p h))) (decoded (fin v p h) t .0) e
+
+-- ---- the exact fractions are the same
+cross-product : (a b g h k x y d e : ℕ) → a * h ≡ x * d → b * h ≡ y * e → a * b * g * (h * h * k) ≡ x * y * k * (d * e * g)
+cross-product a b g h k x y d e p q =
+    let l : a * b * g * (h * h * k) ≡ a * h * (b * h * (g * k)) = simp (mul-assoc, mul-comm, mul-left-comm) in
+    let r : x * d * (y * e * (g * k)) ≡ x * y * k * (d * e * g) = simp (mul-assoc, mul-comm, mul-left-comm) in
+    l ∙ ap₂ (λ (u v : ℕ). u * (v * (g * k))) p q ∙ r
+
+cross-addend : (c d e g h k z : ℕ) → c * h ≡ z * g → c * (d * e) * (h * h * k) ≡ z * (h * k) * (d * e * g)
+cross-addend c d e g h k z p =
+    let l : c * (d * e) * (h * h * k) ≡ c * h * (d * e * (h * k)) = simp (mul-assoc, mul-comm, mul-left-comm) in
+    let r : z * g * (d * e * (h * k)) ≡ z * (h * k) * (d * e * g) = simp (mul-assoc, mul-comm, mul-left-comm) in
+    l ∙ ap (λ (u : ℕ). u * (d * e * (h * k))) p ∙ r
+
+product-of : (m n p q : ℕ) → m * 2 ^ p * (n * 2 ^ q) * 2 ^ 14 ≡ m * n * 2 ^ (p + q + 14)
+product-of m n p q =
+    let l : m * 2 ^ p * (n * 2 ^ q) * 2 ^ 14 ≡ m * n * (2 ^ p * 2 ^ q * 2 ^ 14) = regroup m n (2 ^ p) (2 ^ q) (2 ^ 14) in
+    l ∙ ap (λ (z : ℕ). m * n * z) (ap (λ (z : ℕ). z * 2 ^ 14) (sym (pow-add 2 p q)) ∙ sym (pow-add 2 (p + q) 14))
+  where
+    regroup : (m n a b c : ℕ) → m * a * (n * b) * c ≡ m * n * (a * b * c)
+    regroup m n a b c = simp (mul-assoc, mul-comm, mul-left-comm)
+
+addend-of : (m q : ℕ) → m * 2 ^ q * (2 ^ 150 * 2 ^ 14) ≡ m * 2 ^ (q + 164)
+addend-of m q = mul-assoc m (2 ^ q) (2 ^ 150 * 2 ^ 14) ∙ ap (λ (z : ℕ). m * z) (sym (pow-add 2 q 164))
+
+pub fused-is : (a b c : Float) → Decoded a (bitsOf a) → Decoded b (bitsOf b) → Decoded c (bitsOf c)
+    → (fieldOf (bitsOf a) ≡ 255 → ⊥) → (fieldOf (bitsOf b) ≡ 255 → ⊥) → (fieldOf (bitsOf c) ≡ 255 → ⊥) → fusedBitsOf (bitsOf a) (bitsOf b) (bitsOf c) ≡ fusedOf a b c
+fused-is nan b c p q r u v w = absurd (u p)
+fused-is (inf s) b c p q r u v w = absurd (u p)
+fused-is (fin s m e) nan c p q r u v w = absurd (v q)
+fused-is (fin s m e) (inf t) c p q r u v w = absurd (v q)
+fused-is (fin s m e) (fin t n d) nan p q r u v w = absurd (w r)
+fused-is (fin s m e) (fin t n d) (inf i) p q r u v w = absurd (w r)
+fused-is (fin s m e) (fin t n d) (fin i l g) p q r u v w = both s m e t n d i l g (bitsOf (fin s m e)) (bitsOf (fin t n d)) (bitsOf (fin i l g)) p q r
+  where
+    both : (s : Bool) (m : ℕ) (e : ℤ) (t : Bool) (n : ℕ) (d : ℤ) (i : Bool) (l : ℕ) (g : ℤ) (x y z : ℕ) → Decoded (fin s m e) x → Decoded (fin t n d) y → Decoded (fin i l g) z → fusedBitsOf x y z ≡ fusedOf (fin s m e) (fin t n d) (fin i l g)
+    both s m e t n d i l g x y z p q r =
+        unfold fusedBitsOf fusedOf in
+        ap rounded
+        (sym (ap₂ (λ (a b : Bool). sum binary32 (unlike a b) (m * up e * (n * up d) * down g) i (l * up g * (down e * down d)) (down e * down d * down g)) (p .1) (q .1)
+        ∙ ap (λ (a : Bool). sum binary32 (unlike (signOf x) (signOf y)) (m * up e * (n * up d) * down g) a (l * up g * (down e * down d)) (down e * down d * down g)) (r .1)
+        ∙ sum-same binary32 (unlike (signOf x) (signOf y)) (m * up e * (n * up d) * down g) (signOf z) (l * up g * (down e * down d)) (down e * down d * down g)
+        (M x * M y * 2 ^ (Q x + Q y + 14)) (M z * 2 ^ (Q z + 164)) (2 ^ 314)
+        (mul-pos (mul-pos (down-pos e) (down-pos d)) (down-pos g)) (pow-pos 314)
+        (cross-product (m * up e) (n * up d) (down g) (2 ^ 150) (2 ^ 14) (M x * 2 ^ Q x) (M y * 2 ^ Q y) (down e) (down d) (p .2) (q .2) ∙ ap (λ (k : ℕ). k * (down e * down d * down g)) (product-of (M x) (M y) (Q x) (Q y)))
+        (cross-addend (l * up g) (down e) (down d) (down g) (2 ^ 150) (2 ^ 14) (M z * 2 ^ Q z) (r .2) ∙ ap (λ (k : ℕ). k * (down e * down d * down g)) (addend-of (M z) (Q z)))))

@@ -1,0 +1,14 @@
+pub mod Words
+pub mod Sticky
+pub mod Places
+pub mod Decode
+pub mod Encode
+pub mod Round
+pub mod Align
+pub mod Exact
+pub mod Fuse
+pub mod Roots
+pub mod RootExact
+pub mod Near
+pub mod NearestRoot
+pub mod Table

@@ -1,0 +1,73 @@
+use mathlib.Core.Path.{_≡_, refl, sym, ap, ap₂, _∙_, subst}
+use mathlib.Core.Logic.{_⊎_, inl, inr}
+use Prim.Native.Nat.{ℕ, zero, suc, _+_, _-_, _*_, _/_, _%_, _^_, _≤_, _<_, zero-le, compare}
+use native.Mathlib.Nat.{le-trans, le-of-eq, le-refl, lt-of-lt-of-le, lt-of-le-of-lt, mod-eq-of-lt, mod-lt, mod-le, one-mul, zero-mul, div-le-self, le-antisymm, le-of-suc-le-suc}
+use native.Mathlib.Omega.{arith}
+use mathlib.Core.Bool.{Bool, true, false, not, cond, _&&_, Bool·beq}
+use lib.Dec.{T, eqb, ltb, lit≤, lit<}
+use lib.Bits.{bitAnd}
+use lib.Pow.{pow-pos, pow-mono, shr-le}
+use mir.Syntax.{w32, w64}
+use mir.Val.{Fits}
+use borrow.Author.Needs.{needs}
+use borrow.Author.Tests.{eq-eqb, ne-eqb, lt-ltb, le-ltb}
+use Rattle.float.proofs.rounding.pack.Statement.{statement}
+use Rattle.float.proofs.rounding.pack.Tie as tie
+use lib.Ieee.{binary32, ofBits, nanBits}
+use lib.Ieee.Bits.{nanBits-above}
+use Rattle.float.specs.declared.Rounded.{Rounded}
+use Rattle.float.specs.declared.Rounded.the-variants.{Finite, Nothing}
+use Rattle.float.specs.Inside.{packOf}
+use Rattle.float.proofs.Words.{T-not-of}
+
+over : (s : Bool) (b : ℕ) → 2139095040 ≤ b → Nothing ≡ packOf s b
+unfolding packOf
+over s b h = sym (ap (λ (t : Bool). cond t (Finite (ofBits binary32 (cond s 2147483648 0 + b))) Nothing) (le-ltb b 2139095040 h))
+
+within : (s : Bool) (b : ℕ) → b < 2139095040 → Finite (ofBits binary32 (cond s 2147483648 0 + b)) ≡ packOf s b
+unfolding packOf
+within s b h = sym (ap (λ (t : Bool). cond t (Finite (ofBits binary32 (cond s 2147483648 0 + b))) Nothing) (lt-ltb b 2139095040 h))
+
+minus : (s : Bool) (b : ℕ) → s ≡ true → b < 2139095040 → Finite (ofBits binary32 (2147483648 + b)) ≡ packOf s b
+minus s b e h = ap (λ (t : Bool). Finite (ofBits binary32 (cond t 2147483648 0 + b))) (sym e) ∙ within s b h
+
+plus : (s : Bool) (b : ℕ) → s ≡ false → b < 2139095040 → Finite (ofBits binary32 b) ≡ packOf s b
+plus s b e h = ap (λ (x : ℕ). Finite (ofBits binary32 x)) (zero-more b) ∙ ap (λ (t : Bool). Finite (ofBits binary32 (cond t 2147483648 0 + b))) (sym e) ∙ within s b h
+  where
+    zero-more : (b : ℕ) → b ≡ 0 + b
+    zero-more b = omega arith
+
+no-nan : (n : ℕ) → n % 2147483648 ≤ 2139095040 → T (not (nanBits binary32 n))
+no-nan n h = T-not-of (nanBits-above binary32 n ∙ le-ltb 2139095040 (n % 2147483648) h)
+
+high : (b : ℕ) → b < 2139095040 → (2147483648 + b) % 2147483648 ≤ 2139095040
+high b h = omega arith
+
+low : (b : ℕ) → b < 2139095040 → b % 2147483648 ≤ 2139095040
+low b h = omega arith
+
+returns : tie.Need-returns
+returns c = over (c .before .args .negative) (c .before .args .bits) (c .if1 .taken)
+
+cast-m : tie.Need-cast-m
+cast-m c = search needs
+
+add-t5 : tie.Need-add-t5
+add-t5 c = search needs
+
+float-from-bits-t6 : tie.Need-float-from-bits-t6
+float-from-bits-t6 c = no-nan (2147483648 + c .before .before .args .bits) (high (c .before .before .args .bits) (c .before .if1 .left))
+
+returns-2 : tie.Need-returns-2
+returns-2 c = minus (c .before .before .args .negative) (c .before .before .args .bits) (c .if2 .taken) (c .before .if1 .left)
+
+float-from-bits-t7 : tie.Need-float-from-bits-t7
+float-from-bits-t7 c = no-nan (c .before .before .args .bits) (low (c .before .before .args .bits) (c .before .if1 .left))
+
+returns-3 : tie.Need-returns-3
+returns-3 c = plus (c .before .before .args .negative) (c .before .before .args .bits) (c .if2 .left) (c .before .if1 .left)
+
+pub pack-spec : {M : Type 1} → statement M
+pack-spec =
+    tie.close
+    (tie.spec returns cast-m add-t5 float-from-bits-t6 returns-2 float-from-bits-t7 returns-3)

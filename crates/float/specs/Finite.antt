@@ -1,0 +1,15 @@
+-- A finite number, or the word that there is none.
+use mathlib.Core.Bool.{Bool, true, false}
+use lib.Ieee.{Float, nan, inf, fin}
+use Rattle.float.specs.declared.Rounded.{Rounded}
+use Rattle.float.specs.declared.Rounded.the-variants.{Finite, Nothing}
+
+unfoldable pub isFinite : Float → Bool
+isFinite nan = false
+isFinite (inf s) = false
+isFinite (fin s m e) = true
+
+abbrev pub rounded : Float → Rounded
+rounded nan = Nothing
+rounded (inf s) = Nothing
+rounded (fin s m e) = Finite (fin s m e)

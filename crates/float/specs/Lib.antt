@@ -1,0 +1,5 @@
+pub mod Finite
+pub mod Fused
+pub mod Root
+pub mod Nearest
+pub mod Inside

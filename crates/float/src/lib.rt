@@ -1,0 +1,73 @@
+// Rust's exactly rounded `mul_add` and `sqrt` of f32 (document 01, 'Float helpers'), in whole numbers alone, and the roundings to whole numbers that
+// settings and rows need.
+mod bits;
+mod fused;
+mod root;
+mod rounding;
+
+ghost use mathlib.Core.Path.{_≡_};
+ghost use lib.Ieee.{binary32, ofBits};
+ghost use Rattle.float.specs.Finite.{isFinite};
+ghost use Rattle.float.specs.Fused.{fusedOf};
+ghost use Rattle.float.specs.Root.{rootOf};
+
+// A finite number, or the word that there is none.
+pub enum Rounded {
+    Finite(f32),
+    Nothing,
+}
+
+// Neither an infinity nor a NaN.
+pub fn is_finite(x: f32) -> bool
+    ensures { λ r. ⌜ r ≡ isFinite x ⌝ }
+{
+    bits::field(bits::bits_of(x)) != 255
+}
+
+// The float of a pattern; every NaN's pattern is one NaN.
+pub fn from_bits(bits: u32) -> f32
+    ensures { λ r. ⌜ r ≡ ofBits binary32 bits ⌝ }
+{
+    let size = bits % 0x8000_0000;
+    if size <= 0x7f80_0000 {
+        return f32::from_bits(bits);
+    }
+    0.0 / 0.0
+}
+
+// a * b + c, rounded once. There is none where an operand is not finite, or where the rounded result overflows.
+pub fn mul_add(a: f32, b: f32, c: f32) -> Rounded
+    ensures { λ r. ⌜ r ≡ fusedOf a b c ⌝ }
+{
+    let x = bits::bits_of(a);
+    let y = bits::bits_of(b);
+    let z = bits::bits_of(c);
+    if bits::field(x) == 255 {
+        return Rounded::Nothing;
+    }
+    if bits::field(y) == 255 {
+        return Rounded::Nothing;
+    }
+    if bits::field(z) == 255 {
+        return Rounded::Nothing;
+    }
+    fused::fused_bits(x, y, z)
+}
+
+// The square root of x, rounded once. There is none where x is negative or not finite; the root of -0 is -0.
+pub fn sqrt(x: f32) -> Rounded
+    ensures { λ r. ⌜ r ≡ rootOf x ⌝ }
+{
+    let b = bits::bits_of(x);
+    if bits::field(b) == 255 {
+        return Rounded::Nothing;
+    }
+    let m = bits::significand(b);
+    if m == 0 {
+        return Rounded::Finite(x);
+    }
+    if bits::negative(b) {
+        return Rounded::Nothing;
+    }
+    root::positive_root(m, bits::place(b))
+}
