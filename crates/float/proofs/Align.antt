@@ -38,7 +38,7 @@ same-sum f s t a b c a' b' c' e1 e2 P L G = go (Bool·beq s t) (ltb a b) (ltb a'
     go false true y' z z' p q u v = L t (u tt) ∙ ap (λ (y : Bool). round f (cond y t (s && z')) (cond y (b' - a') (a' - b')) c') p
     go false false y' z z' p q u v = G (s && z) (v tt) ∙ ap (λ (w : Bool). round f (s && w) (a' - b') c') q ∙ ap (λ (y : Bool). round f (cond y t (s && z')) (cond y (b' - a') (a' - b')) c') p
 
-scale-test : (a b a' b' k k' : ℕ) → 0 < k → 0 < k' → a * k ≡ a' * k' → b * k ≡ b' * k' → ltb a b ≡ ltb a' b'
+pub scale-test : (a b a' b' k k' : ℕ) → 0 < k → 0 < k' → a * k ≡ a' * k' → b * k ≡ b' * k' → ltb a b ≡ ltb a' b'
 scale-test a b a' b' k k' K K' p q = elim (side a b) [
   | inl l ↦ lt-ltb a b l ∙ sym (lt-ltb a' b' (lt-of-mul-lt-mul-right k' (subst (λ (x : ℕ). x < b' * k') p (subst (λ (x : ℕ). a * k < x) q (mul-lt-mul-of-pos-right l K)))))
   | inr g ↦ le-ltb a b g ∙ sym (le-ltb a' b' (le-of-mul-le-mul-right (subst (λ (x : ℕ). x ≤ a' * k') q (subst (λ (x : ℕ). b * k ≤ x) p (mul-le-mul-right k g))) K'))

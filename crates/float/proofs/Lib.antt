@@ -7,6 +7,9 @@ pub mod Round
 pub mod Align
 pub mod Exact
 pub mod Fuse
+pub mod Cuts
+pub mod Bounds
+pub mod Counts
 pub mod Roots
 pub mod RootExact
 pub mod Near

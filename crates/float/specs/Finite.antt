@@ -1,5 +1,6 @@
 -- A finite number, or the word that there is none.
 use mathlib.Core.Bool.{Bool, true, false}
+use lib.IntN.{pos}
 use lib.Ieee.{Float, nan, inf, fin}
 use Rattle.float.specs.declared.Rounded.{Rounded}
 use Rattle.float.specs.declared.Rounded.the-variants.{Finite, Nothing}
@@ -13,3 +14,8 @@ abbrev pub rounded : Float → Rounded
 rounded nan = Nothing
 rounded (inf s) = Nothing
 rounded (fin s m e) = Finite (fin s m e)
+
+-- the number, and 0 for the word
+abbrev pub orZero : Rounded → Float
+orZero (Finite x) = x
+orZero Nothing = fin false 0 (pos 0)

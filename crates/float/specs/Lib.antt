@@ -2,4 +2,5 @@ pub mod Finite
 pub mod Fused
 pub mod Root
 pub mod Nearest
+pub mod Whole
 pub mod Inside

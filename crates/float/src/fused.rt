@@ -45,7 +45,7 @@ fn gap(a: i32, b: i32) -> u32
 }
 
 // m / 2^d, with the lowest digit set where digits that are not 0 were cut off.
-fn jam(m: u64, d: u32) -> u64
+pub(crate) fn jam(m: u64, d: u32) -> u64
     ensures { λ r. ⌜ r ≡ jamOf m d ⌝ }
 {
     if 63 < d {

@@ -4,10 +4,11 @@ mod bits;
 mod fused;
 mod root;
 mod rounding;
+pub mod whole;
 
 ghost use mathlib.Core.Path.{_≡_};
 ghost use lib.Ieee.{binary32, ofBits};
-ghost use Rattle.float.specs.Finite.{isFinite};
+ghost use Rattle.float.specs.Finite.{isFinite, orZero};
 ghost use Rattle.float.specs.Fused.{fusedOf};
 ghost use Rattle.float.specs.Root.{rootOf};
 
@@ -15,6 +16,16 @@ ghost use Rattle.float.specs.Root.{rootOf};
 pub enum Rounded {
     Finite(f32),
     Nothing,
+}
+
+// The number, and 0 for the word: for callers whose bounds rule the word out.
+pub fn or_zero(r: Rounded) -> f32
+    ensures { λ x. ⌜ x ≡ orZero r ⌝ }
+{
+    match r {
+        Rounded::Finite(x) => x,
+        Rounded::Nothing => 0.0,
+    }
 }
 
 // Neither an infinity nor a NaN.

@@ -1,8 +1,10 @@
-// The door for C and Rust: numbers go in and out as bit patterns.
+// The door for C and Rust. Its parts of arithmetic are for tests: a float that may be a NaN of any pattern goes in and out as bits.
 ghost use mathlib.Core.Path.{_≡_};
-ghost use lib.Ieee.{binary32, ofBits};
+ghost use lib.IntN.{pos};
+ghost use lib.Ieee.{binary32, ofBits, ofInt};
 ghost use Rattle.float.specs.Fused.{fusedOf};
 ghost use Rattle.float.specs.Root.{rootOf};
+ghost use Rattle.float.specs.Whole.{roundOf, ceilOf};
 ghost use Rattle.score.specs.Score.{scoreOf};
 ghost use Rattle.hub.specs.Pattern.{numberOf, patternOf};
 
@@ -49,4 +51,32 @@ pub extern "C" fn fallowcart_score_bits(ratio: u32) -> u64
     ensures { λ r. ⌜ r ≡ scoreOf (ofBits binary32 ratio) ⌝ }
 {
     score::score(float::from_bits(ratio))
+}
+
+#[no_mangle]
+pub extern "C" fn fallowcart_nearest(n: u64) -> f32
+    ensures { λ r. ⌜ r ≡ ofInt binary32 (pos n) ⌝ }
+{
+    float::whole::nearest(n)
+}
+
+#[no_mangle]
+pub extern "C" fn fallowcart_round_f32(x: f32) -> u64
+    ensures { λ r. ⌜ r ≡ roundOf x ⌝ }
+{
+    float::whole::round_f32(x)
+}
+
+#[no_mangle]
+pub extern "C" fn fallowcart_round_f64(x: f64) -> u64
+    ensures { λ r. ⌜ r ≡ roundOf x ⌝ }
+{
+    float::whole::round_f64(x)
+}
+
+#[no_mangle]
+pub extern "C" fn fallowcart_ceil_f64(x: f64) -> u64
+    ensures { λ r. ⌜ r ≡ ceilOf x ⌝ }
+{
+    float::whole::ceil_f64(x)
 }

@@ -109,13 +109,13 @@ loop-less : tie.Need-loop-less Inv-loop μ-loop
 loop-less c = less (c .before .before .loop .i) (c .before .loop-test .taken)
 
 loop-again : tie.Need-loop-again Inv-loop μ-loop
-loop-again c = set (c .before .before .before .args .n) (c .before .before .loop .r) (c .before .before .loop .i) (c .before .before .loop .inv) (c .before .loop-test .taken) (c .if1 .taken)
+loop-again c = set (c .before .before .before .args .n) (c .before .before .loop .r) (c .before .before .loop .i) (c .before .before .loop .inv) (c .before .loop-test .taken) (omega arith)
 
 loop-less-2 : tie.Need-loop-less-2 Inv-loop μ-loop
 loop-less-2 c = less (c .before .before .loop .i) (c .before .loop-test .taken)
 
 loop-again-2 : tie.Need-loop-again-2 Inv-loop μ-loop
-loop-again-2 c = clear (c .before .before .before .args .n) (c .before .before .loop .r) (c .before .before .loop .i) (c .before .before .loop .inv) (c .before .loop-test .taken) (c .if1 .left)
+loop-again-2 c = clear (c .before .before .before .args .n) (c .before .before .loop .r) (c .before .before .loop .i) (c .before .before .loop .inv) (c .before .loop-test .taken) (omega arith)
 
 returns : tie.Need-returns Inv-loop μ-loop
 returns c = at-end (c .before .before .args .n) (c .before .loop .r) (c .before .loop .i) (c .before .loop .inv) (c .loop-test .left)
