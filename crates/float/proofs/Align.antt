@@ -1,13 +1,13 @@
 -- Two magnitudes brought to one place, the smaller place's digits cut off into a sticky digit: their rounded sum or difference is that of the words.
 use mathlib.Core.Path.{_≡_, refl, sym, ap, ap₂, _∙_, subst}
 use mathlib.Core.Logic.{_⊎_, inl, inr}
-use Prim.Native.Nat.{ℕ, zero, suc, _+_, _-_, _*_, _/_, _%_, _^_, _≤_, _<_, compare}
-use native.Mathlib.Nat.{le-antisymm, le-refl, le-trans, le-of-eq, le-of-lt, lt-of-lt-of-le, lt-of-le-of-lt, lt-irrefl, not-le-of-lt, add-assoc, add-comm, mul-pos, mul-comm, mul-assoc, mul-left-comm, mul-right-comm, mul-one, suc-mul, add-mul, mul-sub, mul-le-mul-left, mul-le-mul-right, mul-lt-mul-of-pos-right, lt-of-mul-lt-mul-right, le-of-mul-le-mul-right, mod-lt, div-add-mod', eq-zero-or-pos}
+use Prim.Native.Nat.{ℕ, suc, _+_, _-_, _*_, _/_, _^_, _≤_, _<_}
+use native.Mathlib.Nat.{le-trans, le-of-eq, le-of-lt, lt-of-lt-of-le, lt-of-le-of-lt, add-comm, mul-comm, mul-assoc, mul-one, suc-mul, add-mul, mul-sub, mul-le-mul-left, mul-le-mul-right, mul-lt-mul-of-pos-right, lt-of-mul-lt-mul-right, le-of-mul-le-mul-right}
 use native.Mathlib.Omega.{arith}
 use mathlib.Core.Bool.{Bool, true, false, not, _&&_, Bool·beq, cond}
-use lib.Dec.{T, eqb, ltb, ltb→lt, lt→ltb, nltb→le, eqb→eq, eqb-refl}
-use lib.Pow.{pow-add, pow-pos, pow-mono, pow-lt}
-use lib.Ieee.{Float, Format, binary32, prec, low, round, sum}
+use lib.Dec.{T, ltb, ltb→lt, nltb→le}
+use lib.Pow.{pow-add, pow-pos}
+use lib.Ieee.{Format, prec, low, round, sum}
 use lib.Ieee.Scale.{round-same}
 use borrow.Author.Tests.{lt-ltb, le-ltb}
 use Rattle.float.specs.Inside.{magOf, negOf}

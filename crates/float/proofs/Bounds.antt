@@ -1,21 +1,21 @@
 -- Bounds of rounded results, by monotone rounding. `Mag x n d`: x is finite and |x| ≤ n / d. `Low x n d`: and its sign is +. `Held f n d`: n / d is a value of the format f.
 use mathlib.Core.Path.{_≡_, refl, sym, ap, ap₂, _∙_, subst}
-use mathlib.Core.Logic.{_⊎_, inl, inr}
+use mathlib.Core.Logic.{inl, inr}
 use Prim.Native.Nat.{ℕ, zero, suc, _+_, _-_, _*_, _/_, _%_, _^_, _≤_, _<_, zero-le}
-use native.Mathlib.Nat.{le-trans, le-of-eq, le-of-lt, le-refl, le-antisymm, lt-irrefl, lt-of-le-of-lt, lt-of-lt-of-le, zero-lt-suc, not-le-of-lt, eq-or-lt-of-le, eq-zero-or-pos, add-le-add, add-mul, mul-add, mul-one, one-mul, zero-mul, mul-comm, mul-assoc, mul-left-comm, mul-right-comm, mul-mul-mul-comm, mul-pos, mul-le-mul, mul-le-mul-left, mul-le-mul-right, mul-lt-mul-of-pos-right, le-of-mul-le-mul-right, lt-of-mul-lt-mul-right, eq-of-mul-eq-mul-right, div-mul-le-self}
+use native.Mathlib.Nat.{le-trans, le-of-eq, le-of-lt, le-refl, le-antisymm, lt-irrefl, lt-of-le-of-lt, lt-of-lt-of-le, zero-lt-suc, not-le-of-lt, eq-or-lt-of-le, add-le-add, add-mul, mul-one, one-mul, zero-mul, mul-comm, mul-assoc, mul-left-comm, mul-right-comm, mul-mul-mul-comm, mul-pos, mul-le-mul, mul-le-mul-left, mul-le-mul-right, mul-lt-mul-of-pos-right, le-of-mul-le-mul-right, lt-of-mul-lt-mul-right, eq-of-mul-eq-mul-right, div-mul-le-self}
 use native.Mathlib.Omega.{arith}
-use mathlib.Core.Bool.{Bool, true, false, not, _&&_, _||_, cond, Bool·beq, true≢false, false≢true}
+use mathlib.Core.Bool.{Bool, true, false, _&&_, _||_, cond, Bool·beq, true≢false, false≢true}
 use lib.Dec.{T, ltb, leb, eqb, ltb→lt, lt→ltb, leb→le, eqb→eq, lit<, lit≤}
 use lib.IntN.{ℤ, pos, negsuc}
 use lib.Pow.{pow-add, pow-pos, pow-mono, pow-lt}
-use lib.Ieee.{Float, nan, inf, fin, Format, binary32, prec, emax, low, up, down, unlike, size, odd, units, round, sum, add, sub, mul, div, neg, lt, eq, le, fits}
+use lib.Ieee.{Float, nan, inf, fin, Format, binary32, prec, emax, low, up, down, unlike, odd, units, round, sum, add, sub, mul, div, neg, lt, eq, le, fits}
 use lib.Ieee.Fits.{and-i, and-l, and-r, eq→eqb, up-pos, down-pos, round-is, round-fits}
 use lib.Ieee.Exact.{HasValue, round-exact}
 use lib.Ieee.Back.{round-whole}
 use lib.Ieee.Order.{round-mono, le-of-values}
 use lib.Ieee.Nearest.{div-mono}
 use lib.Ieee.Scale.{finite, grid, round-val, round-under}
-use lib.Ieee.Positive.{num, den, positive, den-pos, first-pos, through}
+use lib.Ieee.Positive.{num, den, positive, den-pos, own-value, value-pos, first-pos, through}
 use borrow.Author.Tests.{ne-eqb, le-ltb}
 use Rattle.float.specs.declared.Rounded.{Rounded}
 use Rattle.float.specs.declared.Rounded.the-variants.{Finite, Nothing}
@@ -26,7 +26,7 @@ use Rattle.float.specs.Fused.{fusedOf}
 use Rattle.float.specs.Root.{twiceRoot, rootOf, integerRoot}
 use Rattle.float.proofs.Align.{sum-is}
 use Rattle.float.proofs.Sticky.{side}
-use Rattle.float.proofs.Roots.{Root, integer-root, twice-exact, twice-cut, twice-bound, square-back}
+use Rattle.float.proofs.Roots.{integer-root, twice-exact, twice-cut, twice-bound, square-back}
 
 abbrev pub Mag : Float → ℕ → ℕ → Type 0
 Mag nan n d = ⊥
@@ -95,37 +95,46 @@ mag-value nan s n d v = v
 mag-value (inf t) s n d v = v
 mag-value (fin t m e) s n d v = le-of-eq (v .1)
 
+pub low-value : (x : Float) (n d : ℕ) → HasValue x false n d → Low x n d
+low-value nan n d v = v
+low-value (inf s) n d v = v
+low-value (fin true m e) n d v = true≢false (v .0)
+low-value (fin false m e) n d v = le-of-eq (v .1)
+
 -- ---- values of a format
 pub held-small : (f : Format) (n : ℕ) → n ≤ 2 ^ prec f → Held f n 1
 held-small f n h = round-whole f false n h
 
--- q * 2 ^ j of an f32
-pub held-scaled : (q j : ℕ) → q < 2 ^ 24 → j ≤ 64 → Held binary32 (q * 2 ^ j) 1
-held-scaled q j Q J =
-    round-exact binary32 false (q * 2 ^ j) 1 q (j + 149) (lit< tt) Q
-    (lt-of-lt-of-le (mul-lt-mul-of-pos-right Q (pow-pos (j + 149))) (le-trans (le-of-eq (sym (pow-add 2 24 (j + 149)))) (pow-mono (room j J))))
-    (mul-assoc q (2 ^ j) (2 ^ 149) ∙ ap (λ (z : ℕ). q * z) (sym (pow-add 2 j 149)) ∙ sym (mul-one _))
+-- q * 2 ^ j / 2 ^ i of an f32
+pub held-binary : (q j i : ℕ) → q < 2 ^ 24 → j ≤ 64 → i ≤ 149 → Held binary32 (q * 2 ^ j) (2 ^ i)
+held-binary q j i Q J I =
+    let k = j + (149 - i) in
+    round-exact binary32 false (q * 2 ^ j) (2 ^ i) q k (pow-pos i) Q (lt-of-lt-of-le (mul-lt-mul-of-pos-right Q (pow-pos k)) (le-trans (le-of-eq (sym (pow-add 2 24 k))) (pow-mono (room i j J))))
+    (mul-assoc q (2 ^ j) (2 ^ 149) ∙ ap (λ (z : ℕ). q * z) (sym (pow-add 2 j 149) ∙ ap (λ (z : ℕ). 2 ^ z) (back i j I) ∙ pow-add 2 k i) ∙ sym (mul-assoc q (2 ^ k) (2 ^ i)))
   where
-    room : (j : ℕ) → j ≤ 64 → 24 + (j + 149) ≤ 149 + 128
-    room j J = omega arith
+    room : (i j : ℕ) → j ≤ 64 → 24 + (j + (149 - i)) ≤ 149 + 128
+    room i j J = omega arith
+
+    back : (i j : ℕ) → i ≤ 149 → j + 149 ≡ j + (149 - i) + i
+    back i j I = omega arith
+
+pub held-scaled : (q j : ℕ) → q < 2 ^ 24 → j ≤ 64 → Held binary32 (q * 2 ^ j) 1
+held-scaled q j Q J = held-binary q j 0 Q J zero-le
 
 -- 2 ^ e is 2 ^ j smallest values
 place : (l : ℕ) (e : ℤ) → down e ≤ 2 ^ l → (j : ℕ) × (up e * 2 ^ l ≡ 2 ^ j * down e)
 place l (pos i) h = (i + l, sym (pow-add 2 i l) ∙ sym (mul-one (2 ^ (i + l))))
-place l (negsuc i) h = (l - suc i, one-mul (2 ^ l) ∙ ap (λ (z : ℕ). 2 ^ z) (back l (suc i) (under l (suc i) h)) ∙ pow-add 2 (l - suc i) (suc i))
+place l (negsuc i) h = (l - suc i, one-mul (2 ^ l) ∙ ap (λ (z : ℕ). 2 ^ z) (omega (arith, (under l (suc i) h))) ∙ pow-add 2 (l - suc i) (suc i))
   where
     under : (l i : ℕ) → 2 ^ i ≤ 2 ^ l → i ≤ l
     under l i h = elim (side l i) [ inl g ↦ absurd (not-le-of-lt (pow-lt g) h) | inr g ↦ g ]
-
-    back : (l i : ℕ) → i ≤ l → l ≡ l - i + i
-    back l i h = omega arith
 
 fits-parts : (f : Format) (s : Bool) (m : ℕ) (e : ℤ) → T (fits f (fin s m e)) → (m < 2 ^ prec f) × (down e ≤ 2 ^ low f) × (m * up e < 2 ^ suc (emax f) * down e)
 unfolding fits
 fits-parts f s zero e t = (
   pow-pos (prec f),
   le-trans (le-of-eq (sym (one-mul (down e)))) (le-trans (mul-le-mul-right (down e) (up-pos e)) (le-trans (le-of-eq (eqb→eq (up e * down e) 1 t)) (pow-pos (low f)))),
-  subst (λ (z : ℕ). z < 2 ^ suc (emax f) * down e) (sym (zero-mul (up e))) (mul-pos (pow-pos (suc (emax f))) (down-pos e)),
+  rw (zero-mul (up e)) (mul-pos (pow-pos (suc (emax f))) (down-pos e)),
 )
 fits-parts f s (suc m) e t =
     let a : Bool = eqb (suc m % 2) 1 in
@@ -221,16 +230,16 @@ round-low f a b n d n' d' B D v h =
 
 pub round-mag : (f : Format) (s : Bool) (a b n d n' d' : ℕ) → 0 < b → 0 < d → HasValue (round f false n d) false n' d' → a * d ≤ n * b → Mag (round f s a b) n' d'
 round-mag f s a b n d n' d' B D v h =
-    subst (λ (z : Float). Mag z n' d') (sym (round-signed f s a b)) (mag-signed s (round f false a b) n' d' (low-mag (round f false a b) n' d' (round-low f a b n d n' d' B D v h)))
+    rw (round-signed f s a b) (mag-signed s (round f false a b) n' d' (low-mag (round f false a b) n' d' (round-low f a b n d n' d' B D v h)))
 
 -- ---- fractions: X / P ≤ a / b and Y / Q ≤ c / d
-times : (X P Y Q a b c d : ℕ) → X * b ≤ a * P → Y * d ≤ c * Q → X * Y * (b * d) ≤ a * c * (P * Q)
-times X P Y Q a b c d h g = le-trans (le-of-eq (mul-mul-mul-comm X Y b d)) (le-trans (mul-le-mul h g) (le-of-eq (mul-mul-mul-comm a P c Q)))
+cross-times : (X P Y Q a b c d : ℕ) → X * b ≤ a * P → Y * d ≤ c * Q → X * Y * (b * d) ≤ a * c * (P * Q)
+cross-times X P Y Q a b c d h g = le-trans (le-of-eq (mul-mul-mul-comm X Y b d)) (le-trans (mul-le-mul h g) (le-of-eq (mul-mul-mul-comm a P c Q)))
 
-plus : (X P Y Q a b c d : ℕ) → X * b ≤ a * P → Y * d ≤ c * Q → (X * Q + Y * P) * (b * d) ≤ (a * d + c * b) * (P * Q)
-plus X P Y Q a b c d h g =
+cross-plus : (X P Y Q a b c d : ℕ) → X * b ≤ a * P → Y * d ≤ c * Q → (X * Q + Y * P) * (b * d) ≤ (a * d + c * b) * (P * Q)
+cross-plus X P Y Q a b c d h g =
     le-trans (le-of-eq (add-mul (X * Q) (Y * P) (b * d)))
-    (le-trans (add-le-add (times X P Q Q a b d d h (le-of-eq (mul-comm Q d))) (le-trans (le-of-eq (ap (λ (z : ℕ). Y * P * z) (mul-comm b d))) (le-trans (times Y Q P P c d b b g (le-of-eq (mul-comm P b))) (le-of-eq (ap (λ (z : ℕ). c * b * z) (mul-comm Q P))))))
+    (le-trans (add-le-add (cross-times X P Q Q a b d d h (le-of-eq (mul-comm Q d))) (le-trans (le-of-eq (ap (λ (z : ℕ). Y * P * z) (mul-comm b d))) (le-trans (cross-times Y Q P P c d b b g (le-of-eq (mul-comm P b))) (le-of-eq (ap (λ (z : ℕ). c * b * z) (mul-comm Q P))))))
     (le-of-eq (sym (add-mul (a * d) (c * b) (P * Q)))))
 
 -- ---- products
@@ -250,17 +259,17 @@ unlike-same false false p = refl
 
 module _ (f : Format) (x y : Float) (a b c d n k : ℕ) (B : 0 < b) (D : 0 < d) (K : 0 < k) (H : Held f n k) where
   mul-size : Mag x a b → Mag y c d → a * c * k ≤ n * (b * d) → num x * num y * k ≤ n * (den x * den y)
-  mul-size h g p = through (num x * num y) (a * c) n (den x * den y) (b * d) k (mul-pos B D) (times (num x) (den x) (num y) (den y) a b c d (mag-size x a b h) (mag-size y c d g)) p
+  mul-size h g p = through (num x * num y) (a * c) n (den x * den y) (b * d) k (mul-pos B D) (cross-times (num x) (den x) (num y) (den y) a b c d (mag-size x a b h) (mag-size y c d g)) p
 
   pub mul-mag : Mag x a b → Mag y c d → a * c * k ≤ n * (b * d) → Mag (mul f x y) n k
   mul-mag h g p =
-      subst (λ (z : Float). Mag z n k) (sym (mul-is f x y (mag-finite x a b h) (mag-finite y c d g)))
+      rw (mul-is f x y (mag-finite x a b h) (mag-finite y c d g))
       (round-mag f (unlike (sign x) (sign y)) (num x * num y) (den x * den y) n k n k (mul-pos (den-pos x) (den-pos y)) K H (mul-size h g p))
 
   -- of like signs
   pub mul-like : sign x ≡ sign y → Mag x a b → Mag y c d → a * c * k ≤ n * (b * d) → Low (mul f x y) n k
   mul-like s h g p =
-      subst (λ (z : Float). Low z n k) (sym (mul-is f x y (mag-finite x a b h) (mag-finite y c d g) ∙ ap (λ (z : Bool). round f z (num x * num y) (den x * den y)) (unlike-same (sign x) (sign y) s)))
+      rw (mul-is f x y (mag-finite x a b h) (mag-finite y c d g), unlike-same (sign x) (sign y) s)
       (round-low f (num x * num y) (den x * den y) n k n k (mul-pos (den-pos x) (den-pos y)) K H (mul-size h g p))
 
   pub mul-low : Low x a b → Low y c d → a * c * k ≤ n * (b * d) → Low (mul f x y) n k
@@ -271,7 +280,7 @@ square-low f x a b n k B K H h = mul-like f x x a b a b n k B B K H refl h h
 
 -- a weight is at most 1
 weight : (n k : ℕ) → n * 1 * k ≤ n * (k * 1)
-weight n k = le-of-eq (simp (mul-one))
+weight n k = le-of-eq (simp mul-one)
 
 pub mul-weight : (f : Format) (x w : Float) (n k : ℕ) → 0 < k → Held f n k → Mag x n k → Mag w 1 1 → Mag (mul f x w) n k
 mul-weight f x w n k K H h g = mul-mag f x w n k 1 1 n k K (lit< tt) K H h g (weight n k)
@@ -283,20 +292,14 @@ mul-weight-low f x w n k K H h g = mul-low f x w n k 1 1 n k K (lit< tt) K H h g
 size-of-sum : (s : Bool) (a : ℕ) (t : Bool) (b : ℕ) → magOf s a t b ≤ a + b
 size-of-sum s a t b = go (Bool·beq s t) (ltb a b)
   where
-    less : (a b : ℕ) → b - a ≤ a + b
-    less a b = omega arith
-
-    less' : (a b : ℕ) → a - b ≤ a + b
-    less' a b = omega arith
-
     go : (x y : Bool) → cond x (a + b) (cond y (b - a) (a - b)) ≤ a + b
-    go true y = le-refl (a + b)
-    go false true = less a b
-    go false false = less' a b
+    go true y = omega arith
+    go false true = omega arith
+    go false false = omega arith
 
 sum-mag : (f : Format) (s : Bool) (a : ℕ) (t : Bool) (b c n k : ℕ) → 0 < c → 0 < k → Held f n k → (a + b) * k ≤ n * c → Mag (sum f s a t b c) n k
 sum-mag f s a t b c n k C K H h =
-    subst (λ (z : Float). Mag z n k) (sym (sum-is f s a t b c)) (round-mag f (negOf s a t b) (magOf s a t b) c n k n k C K H (le-trans (mul-le-mul-right k (size-of-sum s a t b)) h))
+    rw (sum-is f s a t b c) (round-mag f (negOf s a t b) (magOf s a t b) c n k n k C K H (le-trans (mul-le-mul-right k (size-of-sum s a t b)) h))
 
 sum-plus : (f : Format) (s t : Bool) (a b c : ℕ) → s ≡ false → t ≡ false → sum f s a t b c ≡ round f false (a + b) c
 sum-plus f s t a b c p q = ap₂ (λ (x y : Bool). sum f x a y b c) p q ∙ sum-is f false a false b c
@@ -311,18 +314,18 @@ add-is f (fin s m e) (fin t n d) p q = refl
 
 module _ (f : Format) (x y : Float) (a b c d n k : ℕ) (B : 0 < b) (D : 0 < d) (K : 0 < k) where
   add-size : Mag x a b → Mag y c d → (a * d + c * b) * k ≤ n * (b * d) → (num x * den y + num y * den x) * k ≤ n * (den x * den y)
-  add-size h g p = through (num x * den y + num y * den x) (a * d + c * b) n (den x * den y) (b * d) k (mul-pos B D) (plus (num x) (den x) (num y) (den y) a b c d (mag-size x a b h) (mag-size y c d g)) p
+  add-size h g p = through (num x * den y + num y * den x) (a * d + c * b) n (den x * den y) (b * d) k (mul-pos B D) (cross-plus (num x) (den x) (num y) (den y) a b c d (mag-size x a b h) (mag-size y c d g)) p
 
   pub add-mag : Held f n k → Mag x a b → Mag y c d → (a * d + c * b) * k ≤ n * (b * d) → Mag (add f x y) n k
   add-mag H h g p =
-      subst (λ (z : Float). Mag z n k) (sym (add-is f x y (mag-finite x a b h) (mag-finite y c d g)))
+      rw (add-is f x y (mag-finite x a b h) (mag-finite y c d g))
       (sum-mag f (sign x) (num x * den y) (sign y) (num y * den x) (den x * den y) n k (mul-pos (den-pos x) (den-pos y)) K H (add-size h g p))
 
   pub add-low : (n' k' : ℕ) → HasValue (round f false n k) false n' k' → Low x a b → Low y c d → (a * d + c * b) * k ≤ n * (b * d) → Low (add f x y) n' k'
   add-low n' k' v h g p =
       let h' = low-mag x a b h in
       let g' = low-mag y c d g in
-      subst (λ (z : Float). Low z n' k') (sym (add-is f x y (mag-finite x a b h') (mag-finite y c d g') ∙ sum-plus f (sign x) (sign y) (num x * den y) (num y * den x) (den x * den y) (low-sign x a b h) (low-sign y c d g)))
+      rw (add-is f x y (mag-finite x a b h') (mag-finite y c d g'), sum-plus f (sign x) (sign y) (num x * den y) (num y * den x) (den x * den y) (low-sign x a b h) (low-sign y c d g))
       (round-low f (num x * den y + num y * den x) (den x * den y) n k n' k' (mul-pos (den-pos x) (den-pos y)) K v (add-size h' g' p))
 
 -- 2 ^ 60 + 2 ^ 17 rounds to 2 ^ 60
@@ -356,23 +359,15 @@ over-value (inf s) c d v = v
 over-value (fin true m e) c d v = true≢false (v .0)
 over-value (fin false m e) c d v = le-of-eq (sym (v .1))
 
-over-positive : (y : Float) (c d : ℕ) → 0 < c → Over y c d → T (positive y)
-over-positive nan c d C h = h
-over-positive (inf s) c d C h = h
-over-positive (fin true m e) c d C h = h
-over-positive (fin false m e) c d C h = lt→ltb 0 m (first-pos m (up e) (first-pos (m * up e) d (lt-of-lt-of-le (mul-pos C (down-pos e)) h)))
-
-over-size : (y : Float) (c d : ℕ) → Over y c d → den y * c ≤ d * num y
-over-size nan c d h = absurd h
-over-size (inf s) c d h = absurd h
-over-size (fin true m e) c d h = absurd h
-over-size (fin false m e) c d h = le-trans (le-of-eq (mul-comm (down e) c)) (le-trans h (le-of-eq (mul-comm (m * up e) d)))
+over-parts : (y : Float) (c d : ℕ) → 0 < c → Over y c d → T (positive y) × (den y * c ≤ d * num y)
+over-parts nan c d C h = absurd h
+over-parts (inf s) c d C h = absurd h
+over-parts (fin true m e) c d C h = absurd h
+over-parts (fin false m e) c d C h =
+    (lt→ltb 0 m (first-pos m (up e) (first-pos (m * up e) d (lt-of-lt-of-le (mul-pos C (down-pos e)) h))), le-trans (le-of-eq (mul-comm (down e) c)) (le-trans h (le-of-eq (mul-comm (m * up e) d))))
 
 num-pos : (y : Float) → T (positive y) → 0 < num y
-num-pos nan p = absurd p
-num-pos (inf s) p = absurd p
-num-pos (fin true m e) p = absurd p
-num-pos (fin false m e) p = mul-pos (ltb→lt 0 m p) (up-pos e)
+num-pos y p = value-pos y (num y) (den y) p (den-pos y) (own-value y p)
 
 div-is : (f : Format) (x y : Float) → T (finite x) → T (positive y) → div f x y ≡ round f (unlike (sign x) false) (num x * den y) (den x * num y)
 unfolding div
@@ -387,19 +382,19 @@ div-is f (fin s m e) (fin false n d) p q =
 
 module _ (f : Format) (x y : Float) (a b c d n k : ℕ) (B : 0 < b) (C : 0 < c) (K : 0 < k) (H : Held f n k) where
   div-size : Mag x a b → Over y c d → a * d * k ≤ n * (b * c) → num x * den y * k ≤ n * (den x * num y)
-  div-size h g p = through (num x * den y) (a * d) n (den x * num y) (b * c) k (mul-pos B C) (times (num x) (den x) (den y) (num y) a b d c (mag-size x a b h) (over-size y c d g)) p
+  div-size h g p = through (num x * den y) (a * d) n (den x * num y) (b * c) k (mul-pos B C) (cross-times (num x) (den x) (den y) (num y) a b d c (mag-size x a b h) (over-parts y c d C g .1)) p
 
   pub div-mag : Mag x a b → Over y c d → a * d * k ≤ n * (b * c) → Mag (div f x y) n k
   div-mag h g p =
-      let q = over-positive y c d C g in
-      subst (λ (z : Float). Mag z n k) (sym (div-is f x y (mag-finite x a b h) q))
+      let q = over-parts y c d C g .0 in
+      rw (div-is f x y (mag-finite x a b h) q)
       (round-mag f (unlike (sign x) false) (num x * den y) (den x * num y) n k n k (mul-pos (den-pos x) (num-pos y q)) K H (div-size h g p))
 
   pub div-low : Low x a b → Over y c d → a * d * k ≤ n * (b * c) → Low (div f x y) n k
   div-low h g p =
-      let q = over-positive y c d C g in
+      let q = over-parts y c d C g .0 in
       let h' = low-mag x a b h in
-      subst (λ (z : Float). Low z n k) (sym (div-is f x y (mag-finite x a b h') q ∙ ap (λ (z : Bool). round f (unlike z false) (num x * den y) (den x * num y)) (low-sign x a b h)))
+      rw (div-is f x y (mag-finite x a b h') q, low-sign x a b h)
       (round-low f (num x * den y) (den x * num y) n k n k (mul-pos (den-pos x) (num-pos y q)) K H (div-size h' g p))
 
 -- the divisor is the whole number c
@@ -416,10 +411,7 @@ yields (inf s) P t u p = absurd t
 yields (fin s m e) P t u p = (fin s m e, refl, u, p)
 
 no-number : {X : Type 0} (v : Float) → Nothing ≡ Finite v → X
-no-number v p = let z : _≡_ {A = ℕ} 0 1 = cc in absurd (clash z)
-  where
-    clash : _≡_ {A = ℕ} 0 1 → ⊥
-    clash z = omega arith
+no-number v p = let z : _≡_ {A = ℕ} 0 1 = cc in absurd (omega arith)
 
 rounded-is : (x v : Float) → rounded x ≡ Finite v → x ≡ v
 rounded-is nan v p = no-number v p
@@ -444,23 +436,7 @@ fused-is (fin s m e) (fin t n d) (inf u) p q r = absurd r
 fused-is (fin s m e) (fin t n d) (fin u k g) p q r = refl
 
 sum-fits : (f : Format) (s : Bool) (a : ℕ) (t : Bool) (b c : ℕ) → T (fits f (sum f s a t b c))
-sum-fits f s a t b c = subst (λ (z : Float). T (fits f z)) (sym (sum-is f s a t b c)) (round-fits f (negOf s a t b) (magOf s a t b) c)
-
-module _ (x y z : Float) (a b c d p q n k : ℕ) (B : 0 < b) (D : 0 < d) (Q : 0 < q) (K : 0 < k) (H : Held binary32 n k) where
-  fused-size : Mag x a b → Mag y c d → Mag z p q → (a * c * q + p * (b * d)) * k ≤ n * (b * d * q) → (num x * num y * den z + num z * (den x * den y)) * k ≤ n * (den x * den y * den z)
-  fused-size h g i l =
-      through (num x * num y * den z + num z * (den x * den y)) (a * c * q + p * (b * d)) n (den x * den y * den z) (b * d * q) k (mul-pos (mul-pos B D) Q)
-      (plus (num x * num y) (den x * den y) (num z) (den z) (a * c) (b * d) p q (times (num x) (den x) (num y) (den y) a b c d (mag-size x a b h) (mag-size y c d g)) (mag-size z p q i)) l
-
-  pub fused-mag : Mag x a b → Mag y c d → Mag z p q → (a * c * q + p * (b * d)) * k ≤ n * (b * d * q) → Yields (fusedOf x y z) (λ v. Mag v n k)
-  fused-mag h g i l =
-      let s = unlike (sign x) (sign y) in
-      let A = num x * num y * den z in
-      let C = num z * (den x * den y) in
-      let E = den x * den y * den z in
-      let m = sum-mag binary32 s A (sign z) C E n k (mul-pos (mul-pos (den-pos x) (den-pos y)) (den-pos z)) K H (fused-size h g i l) in
-      subst (λ (r : Rounded). Yields r (λ v. Mag v n k)) (sym (fused-is x y z (mag-finite x a b h) (mag-finite y c d g) (mag-finite z p q i)))
-      (yields (sum binary32 s A (sign z) C E) (λ v. Mag v n k) (mag-finite (sum binary32 s A (sign z) C E) n k m) (sum-fits binary32 s A (sign z) C E) m)
+sum-fits f s a t b c = rw (sum-is f s a t b c) (round-fits f (negOf s a t b) (magOf s a t b) c)
 
 -- the operands of a number are finite, and with like signs of x and y and the sign + of z it is one rounded fraction
 pub fused-finite : (x y z v : Float) → fusedOf x y z ≡ Finite v → T (finite x) × T (finite y) × T (finite z)
@@ -484,13 +460,28 @@ fused-round x y z v s t p =
     sym (sum-plus binary32 (unlike (sign x) (sign y)) (sign z) (num x * num y * den z) (num z * (den x * den y)) (den x * den y * den z) (unlike-same (sign x) (sign y) s) t) ∙ fused-sum x y z v p
 
 pub fused-fits : (x y z v : Float) → fusedOf x y z ≡ Finite v → T (fits binary32 v)
-fused-fits x y z v p = subst (λ (r : Float). T (fits binary32 r)) (fused-sum x y z v p) (sum-fits binary32 (unlike (sign x) (sign y)) (num x * num y * den z) (sign z) (num z * (den x * den y)) (den x * den y * den z))
+fused-fits x y z v p = rw (fused-sum x y z v p) at (sum-fits binary32 (unlike (sign x) (sign y)) (num x * num y * den z) (sign z) (num z * (den x * den y)) (den x * den y * den z))
 
 module _ (x y z : Float) (a b c d p q n k : ℕ) (B : 0 < b) (D : 0 < d) (Q : 0 < q) (K : 0 < k) (H : Held binary32 n k) where
+  fused-size : Mag x a b → Mag y c d → Mag z p q → (a * c * q + p * (b * d)) * k ≤ n * (b * d * q) → (num x * num y * den z + num z * (den x * den y)) * k ≤ n * (den x * den y * den z)
+  fused-size h g i l =
+      through (num x * num y * den z + num z * (den x * den y)) (a * c * q + p * (b * d)) n (den x * den y * den z) (b * d * q) k (mul-pos (mul-pos B D) Q)
+      (cross-plus (num x * num y) (den x * den y) (num z) (den z) (a * c) (b * d) p q (cross-times (num x) (den x) (num y) (den y) a b c d (mag-size x a b h) (mag-size y c d g)) (mag-size z p q i)) l
+
+  pub fused-mag : Mag x a b → Mag y c d → Mag z p q → (a * c * q + p * (b * d)) * k ≤ n * (b * d * q) → Yields (fusedOf x y z) (λ v. Mag v n k)
+  fused-mag h g i l =
+      let s = unlike (sign x) (sign y) in
+      let A = num x * num y * den z in
+      let C = num z * (den x * den y) in
+      let E = den x * den y * den z in
+      let m = sum-mag binary32 s A (sign z) C E n k (mul-pos (mul-pos (den-pos x) (den-pos y)) (den-pos z)) K H (fused-size h g i l) in
+      rw (fused-is x y z (mag-finite x a b h) (mag-finite y c d g) (mag-finite z p q i))
+      (yields (sum binary32 s A (sign z) C E) (λ v. Mag v n k) (mag-finite (sum binary32 s A (sign z) C E) n k m) (sum-fits binary32 s A (sign z) C E) m)
+
   -- the product of like signs
   pub fused-like : sign x ≡ sign y → Mag x a b → Mag y c d → Low z p q → (a * c * q + p * (b * d)) * k ≤ n * (b * d * q) → Yields (fusedOf x y z) (λ v. Low v n k)
   fused-like s h g i l =
-      let r = fused-mag x y z a b c d p q n k B D Q K H h g (low-mag z p q i) l in
+      let r = fused-mag h g (low-mag z p q i) l in
       let e : sign (r .0) ≡ false = ap sign (sym (fused-round x y z (r .0) s (low-sign z p q i) (r .1))) ∙ round-sign binary32 (num x * num y * den z + num z * (den x * den y)) (den x * den y * den z) in
       (r .0, r .1, r .2, low-of-mag (r .0) n k e (r .3))
 
@@ -534,14 +525,14 @@ root-scale r g n k t L h e = le-trans (mul-le-mul-right k h) (le-of-eq (a g k t 
     a g k t = simp (mul-assoc, mul-comm, mul-left-comm)
 
     b : (n L t : ℕ) → t * (t * (n * L)) ≡ n * (t * (t * L))
-    b n L t = simp (mul-assoc, mul-comm, mul-left-comm)
+    b n L t = simp (mul-comm, mul-left-comm)
 
 pub root-low : (x : Float) (a b n k : ℕ) → 0 < b → 0 < k → T (fits binary32 x) → Held binary32 n k → Low x a b → a * (k * k) ≤ n * n * b → Yields (rootOf x) (λ v. Low v n k)
 unfolding rootOf
 root-low nan a b n k B K t H h p = absurd h
 root-low (inf s) a b n k B K t H h p = absurd h
 root-low (fin true m e) a b n k B K t H h p = absurd h
-root-low (fin false zero e) a b n k B K t H h p = (fin false zero e, refl, t, subst (λ (z : ℕ). z ≤ n * down e) (sym (ap (λ (z : ℕ). z * k) (zero-mul (up e)) ∙ zero-mul k)) zero-le)
+root-low (fin false zero e) a b n k B K t H h p = (fin false zero e, refl, t, simp zero-mul zero-le)
 root-low (fin false (suc m) e) a b n k B K t H h p =
     let X = suc m * up e in
     let N = X * 2 ^ 300 / down e in
@@ -555,11 +546,11 @@ pub root-fits : (x v : Float) → T (fits binary32 x) → rootOf x ≡ Finite v 
 unfolding rootOf
 root-fits nan v t p = no-number v p
 root-fits (inf s) v t p = no-number v p
-root-fits (fin s zero e) v t p = subst (λ (z : Float). T (fits binary32 z)) (rounded-is (fin s zero e) v p) t
+root-fits (fin s zero e) v t p = rw (rounded-is (fin s zero e) v p) at t
 root-fits (fin true (suc m) e) v t p = no-number v p
 root-fits (fin false (suc m) e) v t p =
     let r = twiceRoot (suc m * up e * 2 ^ 300 / down e) in
-    subst (λ (z : Float). T (fits binary32 z)) (rounded-is (round binary32 false r (2 ^ 151)) v p) (round-fits binary32 false r (2 ^ 151))
+    rw (rounded-is (round binary32 false r (2 ^ 151)) v p) at (round-fits binary32 false r (2 ^ 151))
 
 -- ---- from comparisons to a bound and back: b is a finite value with the sign +, n / d in size
 pub mag-of-range : (x b : Float) (n d : ℕ) → HasValue b false n d → T (le (neg b) x) → T (le x b) → Mag x n d
@@ -611,17 +602,14 @@ le-of-mag (fin false m e) (fin false p i) n d D v h =
     (across N X, order X N (eqb X N && true) (λ q. and-i (eqb X N) true (eq→eqb q) tt) (through (m * up e) n (p * up i) (down e) d (down i) D h (le-of-eq (sym (v .1)))))
 
 -- ---- monotone: of finite values with the sign +
-own-value : (x : Float) → T (notNegative x) → HasValue x false (num x) (den x)
-own-value nan p = absurd p
-own-value (inf s) p = absurd p
-own-value (fin true m e) p = absurd p
-own-value (fin false m e) p = (refl, refl)
+pub plus-value : (x : Float) → T (notNegative x) → HasValue x false (num x) (den x)
+plus-value nan p = absurd p
+plus-value (inf s) p = absurd p
+plus-value (fin true m e) p = absurd p
+plus-value (fin false m e) p = (refl, refl)
 
-own-low : (x : Float) → T (notNegative x) → Low x (num x) (den x)
-own-low nan p = p
-own-low (inf s) p = p
-own-low (fin true m e) p = p
-own-low (fin false m e) p = le-refl (m * up e * down e)
+pub plus-low : (x : Float) → T (notNegative x) → Low x (num x) (den x)
+plus-low x p = low-value x (num x) (den x) (plus-value x p)
 
 plus-of : (x : Float) → T (finite x) → sign x ≡ false → T (notNegative x)
 plus-of nan t p = t
@@ -630,23 +618,22 @@ plus-of (fin true m e) t p = true≢false p
 plus-of (fin false m e) t p = tt
 
 plus-sign : (x : Float) → T (notNegative x) → sign x ≡ false
-plus-sign x p = low-sign x (num x) (den x) (own-low x p)
+plus-sign x p = low-sign x (num x) (den x) (plus-low x p)
 
 le-size : (x y : Float) → T (notNegative x) → T (notNegative y) → T (le x y) → num x * den y ≤ num y * den x
-le-size x y p q h = mag-size x (num y) (den y) (low-mag x (num y) (den y) (low-of-le x y (num y) (den y) (plus-sign x p) (own-value y q) h))
+le-size x y p q h = mag-size x (num y) (den y) (low-mag x (num y) (den y) (low-of-le x y (num y) (den y) (plus-sign x p) (plus-value y q) h))
+
+le-rounded : (a b c d : ℕ) (u v : Float) → 0 < b → 0 < d → round binary32 false a b ≡ u → round binary32 false c d ≡ v → a * d ≤ c * b → T (le u v)
+le-rounded a b c d u v B D p q h = rw (← p, ← q) (round-mono binary32 a b c d B D h)
 
 pub fused-mono : (x y z x' y' z' u v : Float) → T (notNegative x) → T (notNegative y) → T (notNegative z) → T (notNegative x') → T (notNegative y') → T (notNegative z')
     → T (le x x') → T (le y y') → T (le z z') → fusedOf x y z ≡ Finite u → fusedOf x' y' z' ≡ Finite v → T (le u v)
 fused-mono x y z x' y' z' u v p q r p' q' r' h g i eu ev =
-    let n = num x * num y * den z + num z * (den x * den y) in
-    let d = den x * den y * den z in
-    let n' = num x' * num y' * den z' + num z' * (den x' * den y') in
-    let d' = den x' * den y' * den z' in
-    subst (λ (s : Float). T (le s v)) (fused-round x y z u (plus-sign x p ∙ sym (plus-sign y q)) (plus-sign z r) eu)
-    (subst (λ (s : Float). T (le (round binary32 false n d) s)) (fused-round x' y' z' v (plus-sign x' p' ∙ sym (plus-sign y' q')) (plus-sign z' r') ev)
-    (round-mono binary32 n d n' d' (mul-pos (mul-pos (den-pos x) (den-pos y)) (den-pos z)) (mul-pos (mul-pos (den-pos x') (den-pos y')) (den-pos z'))
-    (plus (num x * num y) (den x * den y) (num z) (den z) (num x' * num y') (den x' * den y') (num z') (den z')
-    (times (num x) (den x) (num y) (den y) (num x') (den x') (num y') (den y') (le-size x x' p p' h) (le-size y y' q q' g)) (le-size z z' r r' i))))
+    le-rounded (num x * num y * den z + num z * (den x * den y)) (den x * den y * den z) (num x' * num y' * den z' + num z' * (den x' * den y')) (den x' * den y' * den z') u v
+    (mul-pos (mul-pos (den-pos x) (den-pos y)) (den-pos z)) (mul-pos (mul-pos (den-pos x') (den-pos y')) (den-pos z'))
+    (fused-round x y z u (plus-sign x p ∙ sym (plus-sign y q)) (plus-sign z r) eu) (fused-round x' y' z' v (plus-sign x' p' ∙ sym (plus-sign y' q')) (plus-sign z' r') ev)
+    (cross-plus (num x * num y) (den x * den y) (num z) (den z) (num x' * num y') (den x' * den y') (num z') (den z')
+    (cross-times (num x) (den x) (num y) (den y) (num x') (den x') (num y') (den y') (le-size x x' p p' h) (le-size y y' q q' g)) (le-size z z' r r' i))
 
 twice-mono : (n m : ℕ) → n ≤ m → twiceRoot n ≤ twiceRoot m
 twice-mono n m h =
@@ -657,7 +644,7 @@ twice-mono n m h =
     elim (side (s * s) m) [
       | inl l ↦
           le-trans (at-most n)
-          (le-trans (step r s (square-back r (s + 1) (lt-of-le-of-lt (p .0) (lt-of-le-of-lt h (q .1)))))
+          (le-trans (omega (arith, (square-back r (s + 1) (lt-of-le-of-lt (p .0) (lt-of-le-of-lt h (q .1))))))
           (le-of-eq (sym (twice-cut m s q (λ e. lt-irrefl m (subst (λ (z : ℕ). z < m) e l))))))
       | inr l ↦ le-trans (twice-bound n s (le-trans h l)) (le-of-eq (sym (twice-exact m s q (le-antisymm (q .0) l))))
     ]
@@ -668,9 +655,6 @@ twice-mono n m h =
         go : (r : ℕ) (b : Bool) → 2 * r + cond b 0 1 ≤ 2 * r + 1
         go r true = omega arith
         go r false = omega arith
-
-    step : (r s : ℕ) → r < s + 1 → 2 * r + 1 ≤ 2 * s + 1
-    step r s h = omega arith
 
 pub root-plus : (x v : Float) → T (notNegative x) → rootOf x ≡ Finite v → T (notNegative v)
 unfolding rootOf
@@ -689,8 +673,8 @@ root-mono (inf s) y u v p q h eu ev = absurd p
 root-mono (fin true m e) y u v p q h eu ev = absurd p
 root-mono (fin false zero e) y u v p q h eu ev =
     let w = root-plus y v q ev in
-    subst (λ (z : Float). T (le z v)) (rounded-is (fin false zero e) u eu)
-    (le-of-values (fin false zero e) v 0 1 (num v) (den v) (lit< tt) (den-pos v) (refl, ap (λ (z : ℕ). z * 1) (zero-mul (up e)) ∙ sym (zero-mul (down e))) (own-value v w) (subst (λ (z : ℕ). z ≤ num v * 1) (sym (zero-mul (den v))) zero-le))
+    rw (← rounded-is (fin false zero e) u eu)
+    (le-of-values (fin false zero e) v 0 1 (num v) (den v) (lit< tt) (den-pos v) (refl, simp zero-mul) (plus-value v w) (rw (zero-mul (den v)) zero-le))
 root-mono (fin false (suc m) e) nan u v p q h eu ev = absurd q
 root-mono (fin false (suc m) e) (inf s) u v p q h eu ev = absurd q
 root-mono (fin false (suc m) e) (fin true n d) u v p q h eu ev = absurd q
@@ -701,11 +685,9 @@ root-mono (fin false (suc m) e) (fin false (suc n) d) u v p q h eu ev =
     let Y = suc n * up d in
     let r = twiceRoot (X * 2 ^ 300 / down e) in
     let s = twiceRoot (Y * 2 ^ 300 / down d) in
-    subst (λ (z : Float). T (le z v)) (rounded-is (round binary32 false r (2 ^ 151)) u eu)
-    (subst (λ (z : Float). T (le (round binary32 false r (2 ^ 151)) z)) (rounded-is (round binary32 false s (2 ^ 151)) v ev)
-    (round-mono binary32 r (2 ^ 151) s (2 ^ 151) (pow-pos 151) (pow-pos 151) (mul-le-mul-right (2 ^ 151)
+    le-rounded r (2 ^ 151) s (2 ^ 151) u v (pow-pos 151) (pow-pos 151) (rounded-is (round binary32 false r (2 ^ 151)) u eu) (rounded-is (round binary32 false s (2 ^ 151)) v ev) (mul-le-mul-right (2 ^ 151)
     (twice-mono (X * 2 ^ 300 / down e) (Y * 2 ^ 300 / down d) (div-mono (X * 2 ^ 300) (down e) (Y * 2 ^ 300) (down d) (down-pos e) (down-pos d)
-    (scaled X Y (down e) (down d) (2 ^ 300) (le-size (fin false (suc m) e) (fin false (suc n) d) tt tt h)))))))
+    (scaled X Y (down e) (down d) (2 ^ 300) (le-size (fin false (suc m) e) (fin false (suc n) d) tt tt h)))))
   where
     scaled : (X Y P Q t : ℕ) → X * Q ≤ Y * P → X * t * Q ≤ Y * t * P
     scaled X Y P Q t h = le-trans (le-of-eq (mul-right-comm X t Q)) (le-trans (mul-le-mul-right t h) (le-of-eq (mul-right-comm Y P t)))
@@ -727,14 +709,8 @@ sub-one f m e h =
 
 -- from 1/2 to 1 a weight's distance from 1 is a value, and so is that by a power of two
 rest-parts : (m : ℕ) (e : ℤ) → down e ≤ m * up e + m * up e → ((down e - m * up e) * up e ≡ down e - m * up e) × (down e - m * up e ≤ m)
-rest-parts m (pos i) h = let z : 1 - m * 2 ^ i ≡ 0 = none (m * 2 ^ i) h in (ap (λ (k : ℕ). k * 2 ^ i) z ∙ zero-mul (2 ^ i) ∙ sym z, le-trans (le-of-eq z) zero-le)
-  where
-    none : (x : ℕ) → 1 ≤ x + x → 1 - x ≡ 0
-    none x h = omega arith
-rest-parts m (negsuc i) h = (mul-one (2 ^ suc i - m * 1), less (2 ^ suc i) m h)
-  where
-    less : (p m : ℕ) → p ≤ m * 1 + m * 1 → p - m * 1 ≤ m
-    less p m h = omega arith
+rest-parts m (pos i) h = let z : 1 - m * 2 ^ i ≡ 0 = omega arith in (ap (λ (k : ℕ). k * 2 ^ i) z ∙ zero-mul (2 ^ i) ∙ sym z, le-trans (le-of-eq z) zero-le)
+rest-parts m (negsuc i) h = (mul-one (2 ^ suc i - m * 1), omega arith)
 
 held-rest : (m : ℕ) (e : ℤ) (t : ℕ) → T (fits binary32 (fin false m e)) → t ≤ 64 → down e ≤ m * up e + m * up e → Held binary32 ((down e - m * up e) * 2 ^ t) (down e)
 held-rest m e t u l h =
@@ -751,10 +727,10 @@ held-rest m e t u l h =
     s
   where
     regroup : (q u t l : ℕ) → q * u * t * l ≡ q * t * (u * l)
-    regroup q u t l = simp (mul-assoc, mul-comm, mul-left-comm)
+    regroup q u t l = simp (mul-assoc, mul-left-comm)
 
     spread : (q t j P : ℕ) → q * t * (j * P) ≡ q * (t * j) * P
-    spread q t j P = simp (mul-assoc, mul-comm, mul-left-comm)
+    spread q t j P = simp mul-assoc
 
     sub-le : (a b : ℕ) → a - b ≤ a
     sub-le a b = omega arith
@@ -770,20 +746,17 @@ mixed-size W r P n k c e h =
     (le-of-eq (sym (add-mul W r (n * (P * k))) ∙ ap (λ (z : ℕ). z * (n * (P * k))) e ∙ d P n k)))
   where
     a : (W n P k : ℕ) → W * n * P * k ≡ W * (n * (P * k))
-    a W n P k = simp (mul-assoc, mul-comm, mul-left-comm)
+    a W n P k = simp mul-assoc
 
     b : (r c P k : ℕ) → r * c * (P * k) * k ≡ r * (c * k * (P * k))
-    b r c P k = simp (mul-assoc, mul-comm, mul-left-comm)
+    b r c P k = simp (mul-assoc, mul-left-comm)
 
     d : (P n k : ℕ) → P * (n * (P * k)) ≡ n * (P * k * P)
     d P n k = simp (mul-assoc, mul-comm, mul-left-comm)
 
 halves : (n k : ℕ) → 262144 * k ≤ n → (1 * n * 1 + 131072 * (2 * k)) * k ≤ n * (2 * k * 1)
-halves n k h = le-trans (mul-le-mul-right k (sum n k h)) (le-of-eq (a n k))
+halves n k h = le-trans (mul-le-mul-right k (omega arith)) (le-of-eq (a n k))
   where
-    sum : (n k : ℕ) → 262144 * k ≤ n → 1 * n * 1 + 131072 * (2 * k) ≤ n * 2
-    sum n k h = omega arith
-
     a : (n k : ℕ) → n * 2 * k ≡ n * (2 * k * 1)
     a n k = mul-assoc n 2 k ∙ ap (λ (z : ℕ). n * z) (sym (mul-one (2 * k)))
 
@@ -798,7 +771,7 @@ blend-low (fin false m j) x e n k K t H p h g i =
     let r = P - W in
     let y = sub binary32 one w in
     let l : W ≤ P = le-trans (le-of-eq (sym (mul-one W))) (le-trans h (le-of-eq (one-mul P))) in
-    let c : (a b : ℕ) → 0 < b → Held binary32 a b → r * b ≤ a * P → Low y a b = λ a b B G q. subst (λ (z : Float). Low z a b) (sym (sub-one binary32 m j l)) (round-low binary32 r P a b a b (down-pos j) B G q) in
+    let c : (a b : ℕ) → 0 < b → Held binary32 a b → r * b ≤ a * P → Low y a b = λ a b B G q. rw (sub-one binary32 m j l) (round-low binary32 r P a b a b (down-pos j) B G q) in
     elim (side (W + W) P) [
       | inl a ↦
           fused-low w x (mul binary32 y e) 1 2 n k (2 ^ 17) 1 n k (lit< tt) K (lit< tt) K H (half W P a) g
@@ -807,7 +780,7 @@ blend-low (fin false m j) x e n k K t H p h g i =
       | inr a ↦
           fused-low w x (mul binary32 y e) W P n k (r * 2 ^ 17) P n k (down-pos j) K (down-pos j) K H (le-refl (W * P)) g
           (mul-low binary32 y e r P (2 ^ 17) 1 (r * 2 ^ 17) P (down-pos j) (lit< tt) (down-pos j) (held-rest m j 17 t (lit≤ tt) a)
-          (c r P (down-pos j) (subst (λ (z : ℕ). Held binary32 z P) (mul-one r) (held-rest m j 0 t (lit≤ tt) a)) (le-refl (r * P))) i (le-of-eq (ap (λ (z : ℕ). r * 131072 * z) (sym (mul-one P)))))
+          (c r P (down-pos j) (rw (mul-one r) at (held-rest m j 0 t (lit≤ tt) a)) (le-refl (r * P))) i (le-of-eq (ap (λ (z : ℕ). r * 131072 * z) (sym (mul-one P)))))
           (mixed-size W r P n k (2 ^ 17) (all W P l) (less n k p))
     ]
   where

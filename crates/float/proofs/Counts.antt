@@ -1,20 +1,19 @@
 -- A count up to 2 ^ 64 as the nearest f32.
 use mathlib.Core.Path.{_≡_, refl, sym, ap, _∙_, subst}
-use mathlib.Core.Bool.{Bool, true, false, cond}
-use mathlib.Core.Logic.{_⊎_, inl, inr}
+use mathlib.Core.Bool.{Bool, false, cond}
 use Prim.Native.Nat.{ℕ, _+_, _*_, _/_, _%_, _^_, _≤_, _<_}
-use native.Mathlib.Nat.{mul-one, one-mul, mul-assoc}
+use native.Mathlib.Nat.{mul-one, mul-assoc}
 use native.Mathlib.Omega.{arith}
 use native.Mathlib.Decide.{decLt}
 use borrow.Author.Tests.{eq-eqb, ne-eqb}
-use lib.Dec.{eqb, lit<, lit≤}
+use lib.Dec.{lit<, lit≤}
 use lib.Pow.{pow-pos, pow-add}
 use lib.IntN.{pos}
 use lib.Ieee.{Float, nan, inf, fin, binary32, round, ofInt}
 use lib.Ieee.Scale.{round-same}
 use Rattle.float.specs.Finite.{rounded, orZero}
 use Rattle.float.specs.Inside.{jamOf}
-use Rattle.float.proofs.Bounds.{Mag, Low, Held, held-scaled, round-low, low-mag}
+use Rattle.float.proofs.Bounds.{Mag, Low, held-scaled, round-low, low-mag}
 use Rattle.float.proofs.Sticky.{sticky-high}
 
 finite : (x : Float) (n d : ℕ) → Mag x n d → orZero (rounded x) ≡ x
@@ -41,36 +40,18 @@ jammed n h = elim (decLt 0 (n % 2)) [
   | no g ↦ let e : n % 2 ≡ 0 = omega arith in ap (λ (b : Bool). round binary32 false (cond b (n / 2) (n / 2 / 2 * 2 + 1) * 2 ^ 315) (2 ^ 314)) (eq-eqb (n % 2) 0 e) ∙ ap (λ (k : ℕ). round binary32 false k (2 ^ 314)) (even e)
   | yes o ↦
       ap (λ (b : Bool). round binary32 false (cond b (n / 2) (n / 2 / 2 * 2 + 1) * 2 ^ 315) (2 ^ 314)) (ne-eqb (n % 2) 0 (some (n % 2) o))
-      ∙ ap (λ (k : ℕ). round binary32 false (k * 2 ^ 315) (2 ^ 314)) (turn (n / 2 / 2))
-      ∙ sym (sticky-high binary32 false n 1 (n / 2 / 2) 314 314 (below o) (above o) (wide))
+      ∙ ap (λ (k : ℕ). round binary32 false (k * 2 ^ 315) (2 ^ 314)) (omega arith)
+      ∙ sym (sticky-high binary32 false n 1 (n / 2 / 2) 314 314 (omega arith) (omega arith) (omega arith))
 ]
   where
     even : n % 2 ≡ 0 → n / 2 * 2 ^ 315 ≡ n * 2 ^ 314
     even e = let t : n ≡ n / 2 * 2 = omega arith in ap (λ (k : ℕ). n / 2 * k) (pow-add 2 1 314) ∙ sym (mul-assoc (n / 2) 2 (2 ^ 314)) ∙ ap (λ (k : ℕ). k * 2 ^ 314) (sym t)
-
-    turn : (g : ℕ) → g * 2 + 1 ≡ 2 * g + 1
-    turn g = omega arith
-
-    below : 0 < n % 2 → 2 * (n / 2 / 2) * 2 ^ 1 < n
-    below o = omega arith
-
-    above : 0 < n % 2 → n < 2 * (n / 2 / 2) * 2 ^ 1 + 2 * 2 ^ 1
-    above o = omega arith
-
-    wide : 2 ^ 25 ≤ n / 2 / 2
-    wide = omega arith
 
 pub count-jammed : (n : ℕ) → 2 ^ 63 ≤ n → n < 2 ^ 64 → orZero (rounded (round binary32 false (jamOf n 1 * 2 ^ 315) (2 ^ 314))) ≡ ofInt binary32 (pos n)
 count-jammed n g h = ap (λ (x : Float). orZero (rounded x)) (jammed n g) ∙ count-is n h
 
 pub jam-small : (n : ℕ) → n < 2 ^ 64 → jamOf n 1 < 2 ^ 63
 jam-small n h = elim (decLt 0 (n % 2)) [
-  | no g ↦ let e : n % 2 ≡ 0 = omega arith in subst (λ (b : Bool). cond b (n / 2) (n / 2 / 2 * 2 + 1) < 9223372036854775808) (sym (eq-eqb (n % 2) 0 e)) half
-  | yes o ↦ subst (λ (b : Bool). cond b (n / 2) (n / 2 / 2 * 2 + 1) < 9223372036854775808) (sym (ne-eqb (n % 2) 0 (some (n % 2) o))) odd
+  | no g ↦ let e : n % 2 ≡ 0 = omega arith in subst (λ (b : Bool). cond b (n / 2) (n / 2 / 2 * 2 + 1) < 9223372036854775808) (sym (eq-eqb (n % 2) 0 e)) (omega arith)
+  | yes o ↦ subst (λ (b : Bool). cond b (n / 2) (n / 2 / 2 * 2 + 1) < 9223372036854775808) (sym (ne-eqb (n % 2) 0 (some (n % 2) o))) (omega arith)
 ]
-  where
-    half : n / 2 < 9223372036854775808
-    half = omega arith
-
-    odd : n / 2 / 2 * 2 + 1 < 9223372036854775808
-    odd = omega arith

@@ -1,11 +1,11 @@
 -- What a float's comparisons with a whole number, or with the middle between two, say of its rounded value.
 use mathlib.Core.Path.{_≡_, refl, sym, ap, _∙_, subst}
-use mathlib.Core.Bool.{Bool, true, false, cond, _&&_, true≢false}
+use mathlib.Core.Bool.{true, false, _&&_, true≢false}
 use Prim.Native.Nat.{ℕ, zero, suc, _+_, _-_, _*_, _/_, _%_, _^_, _≤_, _<_, min}
-use native.Mathlib.Nat.{le-trans, le-of-eq, lt-of-lt-of-le, mul-one, one-mul, mul-assoc, mul-right-comm, mul-left-comm, add-mul, mul-pos, mul-le-mul-left, mul-le-mul-right, mul-lt-mul-of-pos-right, div-lt-iff-lt-mul, le-div-iff-mul-le, div-mul-le-self, div-add-mod', mod-lt, div-one}
+use native.Mathlib.Nat.{le-trans, le-of-eq, lt-of-lt-of-le, mul-one, one-mul, mul-assoc, mul-right-comm, mul-left-comm, add-mul, mul-pos, mul-le-mul-left, mul-lt-mul-of-pos-right, div-lt-iff-lt-mul, le-div-iff-mul-le, div-mul-le-self, div-add-mod', mod-lt}
 use native.Mathlib.Omega.{arith}
-use borrow.Author.Tests.{ltb-true, ltb-false, lt-ltb, le-ltb}
-use lib.Dec.{T, ltb, leb, eqb, ltb→lt, lt→ltb, lit<, lit≤}
+use borrow.Author.Tests.{ltb-true, ltb-false, lt-ltb}
+use lib.Dec.{T, ltb, leb, eqb, ltb→lt, lit<, lit≤}
 use lib.IntN.{ℤ, pos, negsuc}
 use lib.Pow.{pow-add, pow-pos, pow-mono}
 use lib.Arith.{digits-div}
@@ -239,10 +239,7 @@ whole m (negsuc k) t h =
     let p : 2 ^ 1 ≤ 2 ^ suc k = pow-mono {i = 1} {j = suc k} (omega arith) in
     let b : 4503599627370496 * 2 ≤ 4503599627370496 * 2 ^ suc k = mul-le-mul-left 4503599627370496 p in
     let d = digits m (negsuc k) t in
-    absurd (clash m (4503599627370496 * 2 ^ suc k) l b d)
-  where
-    clash : (m b : ℕ) → b ≤ m * 1 * 1 → 4503599627370496 * 2 ≤ b → m < 9007199254740992 → ⊥
-    clash m b l g d = omega arith
+    absurd (omega arith)
 
 negative-below : (m : ℕ) (e : ℤ) → lt (fin true m e) (two 52) ≡ true
 negative-below m e = unfold lt in lt-ltb 0 (m * up e * 1 + 1 * 2 ^ 52 * down e) (let b : 0 < 1 * 2 ^ 52 * down e = mul-pos (lit< tt) (down-pos e) in omega arith)
@@ -257,11 +254,8 @@ round-whole-part (inf s) t h = unfold toUnsigned roundOf in refl
 round-whole-part (fin true m e) t h = absurd (true≢false (sym (negative-below m e) ∙ h))
 round-whole-part (fin false m e) t h = cut-at m e ∙ ap (λ (k : ℕ). min k 18446744073709551615) (same (m * up e) (down e) (whole m e t h)) ∙ sym (round-at m e)
   where
-    one : (n : ℕ) → n / 1 ≡ (2 * n + 1) / (2 * 1)
-    one n = omega arith
-
     same : (n d : ℕ) → d ≡ 1 → n / d ≡ (2 * n + d) / (2 * d)
-    same n d w = subst (λ (k : ℕ). n / k ≡ (2 * n + k) / (2 * k)) (sym w) (one n)
+    same n d w = subst (λ (k : ℕ). n / k ≡ (2 * n + k) / (2 * k)) (sym w) (omega arith)
 
 pub ceil-whole-part : (x : Float) → T (fits binary64 x) → lt x (two 52) ≡ false → toUnsigned 64 x ≡ ceilOf x
 ceil-whole-part nan t h = unfold toUnsigned ceilOf in refl
@@ -269,8 +263,5 @@ ceil-whole-part (inf s) t h = unfold toUnsigned ceilOf in refl
 ceil-whole-part (fin true m e) t h = absurd (true≢false (sym (negative-below m e) ∙ h))
 ceil-whole-part (fin false m e) t h = cut-at m e ∙ ap (λ (k : ℕ). min k 18446744073709551615) (same (m * up e) (down e) (whole m e t h)) ∙ sym (ceil-at m e)
   where
-    one : (n : ℕ) → n / 1 ≡ (n + (1 - 1)) / 1
-    one n = omega arith
-
     same : (n d : ℕ) → d ≡ 1 → n / d ≡ (n + (d - 1)) / d
-    same n d w = subst (λ (k : ℕ). n / k ≡ (n + (k - 1)) / k) (sym w) (one n)
+    same n d w = subst (λ (k : ℕ). n / k ≡ (n + (k - 1)) / k) (sym w) (omega arith)

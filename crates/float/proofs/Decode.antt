@@ -1,12 +1,12 @@
 -- What the bits of a float say: its sign, its significand and its place, and that its value is these.
 use mathlib.Core.Path.{_≡_, refl, sym, ap, ap₂, _∙_, subst}
 use mathlib.Core.Logic.{_⊎_, inl, inr}
-use Prim.Native.Nat.{ℕ, zero, suc, _+_, _-_, _*_, _/_, _%_, _^_, _≤_, _<_}
+use Prim.Native.Nat.{ℕ, zero, suc, _+_, _-_, _*_, _%_, _^_, _≤_, _<_}
 use native.Mathlib.Nat.{lt-irrefl, le-of-suc-le-suc, mod-lt, mul-right-comm, mul-assoc, add-comm, div-lt-iff-lt-mul, pow-suc}
 use native.Mathlib.Omega.{arith}
 use mathlib.Core.Bool.{Bool, true, false, not, cond}
 use lib.IntN.{ℤ}
-use lib.Dec.{T, leb, eqb, eqb→eq, eqb-refl, eqb·suc-zero}
+use lib.Dec.{T, eqb}
 use lib.Arith.{lt-of-le-ne}
 use lib.Pow.{pow-pos}
 use lib.Ieee.{Float, nan, inf, fin, binary32, up, down, odd, ofFields, ofBits, toBits, isNan, fits}
@@ -39,25 +39,13 @@ no-lt x h n = lt-of-le-ne (le-of-suc-le-suc h) n
 
 read : (s : Bool) (x t : ℕ) (r : Bool) (m : ℕ) (e : ℤ) → x < 256 → ofFields binary32 s x t ≡ fin r m e → Says (ofFields binary32 s x t) s x t
 unfolding ofFields
-read s zero t r m e h p = (zero-lt, subst (λ (k : ℕ). HasValue (odd 24 s t 0 149) s k (2 ^ 150)) (ap (λ (k : ℕ). k * 2) (mul-one' t)) (twice (odd 24 s t 0 149) s (t * 2 ^ 0) (odd-sign 24 s t 0 149)))
-  where
-    zero-lt : 0 < 255
-    zero-lt = omega arith
-
-    mul-one' : (t : ℕ) → t * 1 ≡ t
-    mul-one' t = omega arith
+read s zero t r m e h p = ((omega arith), subst (λ (k : ℕ). HasValue (odd 24 s t 0 149) s k (2 ^ 150)) (ap (λ (k : ℕ). k * 2) (omega arith)) (twice (odd 24 s t 0 149) s (t * 2 ^ 0) (odd-sign 24 s t 0 149)))
 read s (suc x) t r m e h p = go (eqb (suc x) 255) (eqb t 0) (eqb-true (suc x) 255) (eqb-false (suc x) 255) p
   where
     go : (a b : Bool) → (a ≡ true → suc x ≡ 255) → (a ≡ false → suc x ≡ 255 → ⊥) → cond a (cond b (inf s) nan) (odd 24 s (8388608 + t) x 149) ≡ fin r m e
         → Says (cond a (cond b (inf s) nan) (odd 24 s (8388608 + t) x 149)) s (suc x) t
-    go true true y n q = absurd (let z : _≡_ {A = ℕ} 0 1 = cc q in no z)
-      where
-        no : _≡_ {A = ℕ} 0 1 → ⊥
-        no z = omega arith
-    go true false y n q = absurd (let z : _≡_ {A = ℕ} 0 1 = cc q in no z)
-      where
-        no : _≡_ {A = ℕ} 0 1 → ⊥
-        no z = omega arith
+    go true true y n q = absurd (let z : _≡_ {A = ℕ} 0 1 = cc q in omega arith)
+    go true false y n q = absurd (let z : _≡_ {A = ℕ} 0 1 = cc q in omega arith)
     go false b y n q = (
       no-lt (suc x) h (n refl),
       subst (λ (k : ℕ). HasValue (odd 24 s (8388608 + t) x 149) s k (2 ^ 150)) (mul-assoc (8388608 + t) (2 ^ x) 2 ∙ ap₂ (λ (k l : ℕ). k * l) (add-comm 8388608 t) (sym (pow-suc 2 x))) (twice (odd 24 s (8388608 + t) x 149) s ((8388608 + t) * 2 ^ x) (odd-sign 24 s (8388608 + t) x 149)),
@@ -103,10 +91,7 @@ normal-or-low b = go (fieldOf b) (b % 8388608)
   where
     go : (x t : ℕ) → (8388608 ≤ significandAt x t) ⊎ (placeAt x ≡ 1)
     go zero t = inr refl
-    go (suc x) t = inl (lead t)
-      where
-        lead : (t : ℕ) → 8388608 ≤ t + 8388608
-        lead t = omega arith
+    go (suc x) t = inl (omega arith)
 
 pub place-lt : (b : ℕ) → Q b < 256
 place-lt b = go (fieldOf b) (field-in b)

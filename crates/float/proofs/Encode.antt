@@ -2,14 +2,13 @@
 use mathlib.Core.Path.{_≡_, refl, sym, ap, ap₂, _∙_, subst}
 use mathlib.Core.Logic.{_⊎_, inl, inr}
 use Prim.Native.Nat.{ℕ, zero, suc, _+_, _-_, _*_, _/_, _%_, _^_, _≤_, _<_, compare}
-use native.Mathlib.Nat.{le-antisymm, le-refl, le-trans, le-of-eq, le-of-lt, le-of-suc-le-suc, lt-of-lt-of-le, lt-of-le-of-lt, lt-of-not-le, lt-irrefl, eq-zero-or-pos, eq-or-lt-of-le, add-assoc, add-comm, mul-pos, mul-comm, mul-assoc, mul-one, one-mul, mul-le-mul-left, mul-le-mul-right, mul-lt-mul-of-pos-right, le-div-iff-mul-le, mul-div-cancel, div-one}
+use native.Mathlib.Nat.{le-antisymm, le-refl, le-trans, le-of-eq, lt-of-lt-of-le, lt-of-le-of-lt, lt-of-not-le, lt-irrefl, eq-zero-or-pos, eq-or-lt-of-le, add-assoc, mul-pos, mul-assoc, mul-one, mul-le-mul-right, mul-lt-mul-of-pos-right, le-div-iff-mul-le, mul-div-cancel}
 use native.Mathlib.Omega.{arith}
 use mathlib.Core.Bool.{Bool, true, false, not, cond}
-use lib.IntN.{ℤ, pos, negsuc}
-use lib.Dec.{T, ltb, ltb→lt, nltb→le, lt→ltb, not-T, lit≤, lit<}
+use lib.Dec.{T, ltb, ltb→lt, lt→ltb, not-T, lit<}
 use lib.Pow.{pow-add, pow-pos, pow-mono, pow-lt, shr-lt}
-use lib.Ieee.{Float, nan, inf, fin, Format, binary32, prec, low, emax, up, down, size, nearest, odd, units, round, fits, toBits, ofBits, top, hid}
-use lib.Ieee.Digits.{Equals, odd-val, size-lt, size-le, size-reaches}
+use lib.Ieee.{Float, nan, inf, fin, Format, binary32, prec, low, down, size, nearest, odd, units, round, toBits, ofBits, top}
+use lib.Ieee.Digits.{Equals, odd-val, size-lt, size-le}
 use lib.Ieee.Fits.{round-is, two, two-le-pos, nearest-le, odd-fits, down-pos}
 use lib.Ieee.Bits.{ofBits-toBits, cond-no}
 use lib.Ieee.Nearest.{closest, closest-same, nearest-ge}
@@ -26,20 +25,14 @@ module _ (f : Format) (s : Bool) (w c i j : ℕ) (lo : 2 ^ (prec f - 1 + c) ≤ 
       let n-is : w * 2 ^ i * 2 ^ l ≡ w * 2 ^ (i + l) = mul-assoc w (2 ^ i) (2 ^ l) ∙ ap (λ (z : ℕ). w * z) (sym (pow-add 2 i l)) in (
         subst (λ (z : ℕ). z < 2 ^ (p + k) * 2 ^ j) (sym n-is)
             (lt-of-lt-of-le (mul-lt-mul-of-pos-right hi (pow-pos (i + l)))
-            (le-trans (le-of-eq (sym (pow-add 2 (p + c) (i + l)))) (le-trans (pow-mono (room p c i l j)) (le-of-eq (pow-add 2 (p + k) j))))),
+            (le-trans (le-of-eq (sym (pow-add 2 (p + c) (i + l)))) (le-trans (pow-mono (omega arith)) (le-of-eq (pow-add 2 (p + k) j))))),
         elim (eq-zero-or-pos k) [
           | inl z ↦ inl z
           | inr g ↦
               inr (subst (λ (z : ℕ). 2 ^ (p - 1 + k) * 2 ^ j ≤ z) (sym n-is)
-              (le-trans (le-of-eq (sym (pow-add 2 (p - 1 + k) j) ∙ ap (λ (z : ℕ). 2 ^ z) (even p c i l j g) ∙ pow-add 2 (p - 1 + c) (i + l))) (mul-le-mul-right (2 ^ (i + l)) lo)))
+              (le-trans (le-of-eq (sym (pow-add 2 (p - 1 + k) j) ∙ ap (λ (z : ℕ). 2 ^ z) (omega arith) ∙ pow-add 2 (p - 1 + c) (i + l))) (mul-le-mul-right (2 ^ (i + l)) lo)))
         ],
       )
-    where
-      room : (p c i l j : ℕ) → p + c + (i + l) ≤ p + (i + l + c - j) + j
-      room p c i l j = omega arith
-
-      even : (p c i l j : ℕ) → 0 < i + l + c - j → p - 1 + (i + l + c - j) + j ≡ p - 1 + c + (i + l)
-      even p c i l j g = omega arith
 
   pub round-word : round f s (w * 2 ^ i) (2 ^ j) ≡ units f s (closest w (2 ^ (c + (j - (i + low f + c))))) (i + low f + c - j)
   round-word =
@@ -54,19 +47,13 @@ module _ (f : Format) (s : Bool) (w c i j : ℕ) (lo : 2 ^ (prec f - 1 + c) ≤ 
       (closest-same n (2 ^ j * 2 ^ k) w (2 ^ h) (mul-pos (pow-pos j) (pow-pos k)) (pow-pos h)
       (ap (λ (z : ℕ). z * 2 ^ h) (mul-assoc w (2 ^ i) (2 ^ l) ∙ ap (λ (z : ℕ). w * z) (sym (pow-add 2 i l)))
       ∙ mul-assoc w (2 ^ (i + l)) (2 ^ h)
-      ∙ ap (λ (z : ℕ). w * z) (sym (pow-add 2 (i + l) h) ∙ ap (λ (z : ℕ). 2 ^ z) (level i l c j) ∙ pow-add 2 j k)))
-    where
-      level : (i l c j : ℕ) → i + l + (c + (j - (i + l + c))) ≡ j + (i + l + c - j)
-      level i l c j = omega arith
+      ∙ ap (λ (z : ℕ). w * z) (sym (pow-add 2 (i + l) h) ∙ ap (λ (z : ℕ). 2 ^ z) (omega arith) ∙ pow-add 2 j k)))
 
   -- the kept number has at most prec digits or is 2 ^ prec, and has all of them where digits are dropped
   pub word-le : closest w (2 ^ (c + (j - (i + low f + c)))) ≤ 2 ^ prec f
   word-le =
       let h = c + (j - (i + low f + c)) in
-      le-trans (nearest-le (w / 2 ^ h) (compare (w % 2 ^ h * 2) (2 ^ h))) (shr-lt (prec f) h (lt-of-lt-of-le hi (pow-mono (more (prec f) c (j - (i + low f + c))))))
-    where
-      more : (p c x : ℕ) → p + c ≤ p + (c + x)
-      more p c x = omega arith
+      le-trans (nearest-le (w / 2 ^ h) (compare (w % 2 ^ h * 2) (2 ^ h))) (shr-lt (prec f) h (lt-of-lt-of-le hi (pow-mono (omega arith))))
 
   pub word-ge : (i + low f + c - j ≡ 0) ⊎ (2 ^ (prec f - 1) ≤ closest w (2 ^ (c + (j - (i + low f + c)))))
   word-ge =
@@ -76,12 +63,9 @@ module _ (f : Format) (s : Bool) (w c i j : ℕ) (lo : 2 ^ (prec f - 1 + c) ≤ 
         | inr g ↦
             inr (le-trans
             (le-div-iff-mul-le {k = 2 ^ h} {x = 2 ^ (prec f - 1)} {y = w} (pow-pos h) .1
-            (le-trans (le-of-eq (sym (pow-add 2 (prec f - 1) h) ∙ ap (λ (z : ℕ). 2 ^ (prec f - 1 + z)) (flat c (i + low f + c) j g))) lo))
+            (le-trans (le-of-eq (sym (pow-add 2 (prec f - 1) h) ∙ ap (λ (z : ℕ). 2 ^ (prec f - 1 + z)) (omega arith))) lo))
             (nearest-ge (w / 2 ^ h) (compare (w % 2 ^ h * 2) (2 ^ h))))
       ]
-    where
-      flat : (c x j : ℕ) → 0 < x - j → c + (j - x) ≡ c
-      flat c x j g = omega arith
 
 -- ---- the bits of q * 2 ^ k units
 size-is : (n z : ℕ) → n < 2 ^ suc z → 2 ^ z ≤ n → size n ≡ suc z
@@ -112,35 +96,17 @@ fields-of q k le ge = elim (eq-or-lt-of-le le) [
       let n-is : q * 2 ^ k ≡ 2 ^ (24 + k) = ap (λ (z : ℕ). z * 2 ^ k) e ∙ sym (pow-add 2 24 k) in
       let z : size (q * 2 ^ k) ≡ suc (24 + k) = size-is (q * 2 ^ k) (24 + k) (subst (λ (x : ℕ). x < 2 ^ suc (24 + k)) (sym n-is) (pow-lt (le-refl (suc (24 + k))))) (le-of-eq (sym n-is)) in
       ap (λ (x : ℕ). (x - 24) * 8388608 + q * 2 ^ k / 2 ^ (x - 24)) z
-      ∙ ap (λ (x : ℕ). x * 8388608 + q * 2 ^ k / 2 ^ x) (carried k)
-      ∙ ap (λ (x : ℕ). suc k * 8388608 + x / 2 ^ suc k) (n-is ∙ ap (λ (x : ℕ). 2 ^ x) (regroup k) ∙ pow-add 2 23 (suc k))
+      ∙ ap (λ (x : ℕ). x * 8388608 + q * 2 ^ k / 2 ^ x) (omega arith)
+      ∙ ap (λ (x : ℕ). suc k * 8388608 + x / 2 ^ suc k) (n-is ∙ ap (λ (x : ℕ). 2 ^ x) (omega arith) ∙ pow-add 2 23 (suc k))
       ∙ ap (λ (x : ℕ). suc k * 8388608 + x) (mul-div-cancel (2 ^ 23) (pow-pos (suc k)))
-      ∙ total q k e
+      ∙ (omega arith)
   | inr l ↦
       let k-is : size (q * 2 ^ k) - 24 ≡ k = elim ge [
-        | inl z ↦ few (size (q * 2 ^ k)) k z (size-le (q * 2 ^ k) 24 (subst (λ (x : ℕ). q * 2 ^ x < 2 ^ 24) (sym z) (subst (λ (x : ℕ). x < 2 ^ 24) (sym (mul-one q)) l)))
-        | inr g ↦ ap (λ (x : ℕ). x - 24) (size-is (q * 2 ^ k) (23 + k) (lt-of-lt-of-le (mul-lt-mul-of-pos-right l (pow-pos k)) (le-of-eq (sym (pow-add 2 24 k) ∙ ap (λ (x : ℕ). 2 ^ x) (next k)))) (le-trans (le-of-eq (pow-add 2 23 k)) (mul-le-mul-right (2 ^ k) g))) ∙ all k
+        | inl z ↦ omega (arith, (size-le (q * 2 ^ k) 24 (subst (λ (x : ℕ). q * 2 ^ x < 2 ^ 24) (sym z) (subst (λ (x : ℕ). x < 2 ^ 24) (sym (mul-one q)) l))))
+        | inr g ↦ ap (λ (x : ℕ). x - 24) (size-is (q * 2 ^ k) (23 + k) (lt-of-lt-of-le (mul-lt-mul-of-pos-right l (pow-pos k)) (le-of-eq (sym (pow-add 2 24 k) ∙ ap (λ (x : ℕ). 2 ^ x) (omega arith)))) (le-trans (le-of-eq (pow-add 2 23 k)) (mul-le-mul-right (2 ^ k) g))) ∙ (omega arith)
       ] in
       ap (λ (x : ℕ). x * 8388608 + q * 2 ^ k / 2 ^ x) k-is ∙ ap (λ (x : ℕ). k * 8388608 + x) (mul-div-cancel q (pow-pos k))
 ]
-  where
-    carried : (k : ℕ) → suc (24 + k) - 24 ≡ suc k
-    carried k = omega arith
-
-    regroup : (k : ℕ) → 24 + k ≡ 23 + suc k
-    regroup k = omega arith
-
-    total : (q k : ℕ) → q ≡ 16777216 → suc k * 8388608 + 8388608 ≡ k * 8388608 + q
-    total q k e = omega arith
-
-    few : (z k : ℕ) → k ≡ 0 → z ≤ 24 → z - 24 ≡ k
-    few z k e h = omega arith
-
-    next : (k : ℕ) → 24 + k ≡ suc (23 + k)
-    next k = omega arith
-
-    all : (k : ℕ) → suc (23 + k) - 24 ≡ k
-    all k = omega arith
 
 -- below the largest finite value, in units and in bits alike
 pub in-range : (q k : ℕ) → q ≤ 2 ^ 24 → (k ≡ 0) ⊎ (2 ^ 23 ≤ q) → k * 8388608 + q < 2139095040 → q * 2 ^ k < 2 ^ 277

@@ -1,7 +1,6 @@
 -- The definition of the fused operation, on the bits' parts.
 use mathlib.Core.Path.{_≡_, refl, sym, ap, ap₂, _∙_, subst}
-use mathlib.Core.Logic.{_⊎_, inl, inr}
-use Prim.Native.Nat.{ℕ, zero, suc, _+_, _*_, _%_, _^_, _<_}
+use Prim.Native.Nat.{ℕ, _+_, _*_, _^_, _<_}
 use native.Mathlib.Nat.{lt-irrefl, mul-assoc, mul-comm, mul-left-comm, mul-pos}
 use mathlib.Core.Bool.{Bool}
 use lib.Dec.{T}
@@ -9,7 +8,6 @@ use lib.Pow.{pow-add, pow-pos}
 use lib.IntN.{ℤ}
 use lib.Ieee.{Float, nan, inf, fin, binary32, unlike, up, down, sum, fits}
 use lib.Ieee.Fits.{down-pos}
-use Rattle.float.specs.declared.Rounded.{Rounded}
 use Rattle.float.specs.declared.Rounded.the-variants.{Nothing}
 use Rattle.float.specs.Inside.{fieldOf, signOf, bitsOf, fusedBitsOf, M, Q}
 use Rattle.float.specs.Finite.{rounded}

@@ -1,11 +1,11 @@
 -- The product and the addend, aligned as the code aligns them.
-use mathlib.Core.Path.{_≡_, refl, sym, ap, ap₂, _∙_, subst}
+use mathlib.Core.Path.{_≡_, refl, sym, ap, ap₂, _∙_}
 use mathlib.Core.Logic.{_⊎_, inl, inr}
 use Prim.Native.Nat.{ℕ, zero, suc, _+_, _-_, _*_, _/_, _%_, _^_, _≤_, _<_}
-use native.Mathlib.Nat.{le-trans, le-of-eq, le-of-lt, le-antisymm, lt-of-lt-of-le, lt-of-le-of-lt, add-comm, mul-assoc, mul-comm, mul-left-comm, mul-le-mul-left, mul-le-mul-right, lt-of-mul-lt-mul-right, mod-lt, mul-mod-left, add-mul, one-mul, zero-mul, mul-zero, mul-one, mul-lt-mul-of-pos-right, div-add-mod'}
+use native.Mathlib.Nat.{le-trans, le-of-eq, le-of-lt, lt-of-lt-of-le, lt-of-le-of-lt, add-comm, mul-assoc, mul-comm, mul-le-mul-left, mul-le-mul-right, lt-of-mul-lt-mul-right, mod-lt, mul-mod-left, add-mul, one-mul, zero-mul, mul-zero, mul-one, mul-lt-mul-of-pos-right, div-add-mod'}
 use native.Mathlib.Omega.{arith}
-use mathlib.Core.Bool.{Bool, true, false, not, cond, _&&_, Bool·beq}
-use lib.Dec.{T, eqb, ltb, ltb→lt, nltb→le, eqb→eq}
+use mathlib.Core.Bool.{Bool, true, false, not, cond, _&&_}
+use lib.Dec.{T, eqb, ltb, ltb→lt, nltb→le}
 use lib.Pow.{pow-add, pow-pos, pow-mono, shr-le}
 use lib.Ieee.{Format, binary32, round, sum}
 use borrow.Author.Tests.{eqb-true, eqb-false}
@@ -18,20 +18,14 @@ use Rattle.float.proofs.Align.{Jammed, aligned, sum-is}
 pub sum-comm : (f : Format) (s : Bool) (a : ℕ) (t : Bool) (b c : ℕ) → sum f s a t b c ≡ sum f t b s a c
 sum-comm f s a t b c = sum-is f s a t b c ∙ go s t ∙ sym (sum-is f t b s a c)
   where
-    clash : (a b : ℕ) → a < b → b < a → ⊥
-    clash a b l m = omega arith
-
-    level : (a b : ℕ) → b ≤ a → a ≤ b → a - b ≡ b - a
-    level a b l m = omega arith
-
     unlike : (s t : Bool) (x y : Bool) → (T x → a < b) → (T (not x) → b ≤ a) → (T y → b < a) → (T (not y) → a ≤ b)
         → ((z : Bool) → (s && z) ≡ (t && false) → z ≡ false → round f (s && z) (a - b) c ≡ round f (t && false) (a - b) c)
         → (s && true) ≡ s → (t && true) ≡ t → (s && false) ≡ (t && false)
         → round f (cond x t (s && y)) (cond x (b - a) (a - b)) c ≡ round f (cond y s (t && x)) (cond y (a - b) (b - a)) c
-    unlike s t true true p q r u k v w z = absurd (clash a b (p tt) (r tt))
+    unlike s t true true p q r u k v w z = absurd (omega (arith, p tt, r tt))
     unlike s t true false p q r u k v w z = ap (λ (n : Bool). round f n (b - a) c) (sym w)
     unlike s t false true p q r u k v w z = ap (λ (n : Bool). round f n (a - b) c) v
-    unlike s t false false p q r u k v w z = ap₂ (λ (n : Bool) (m : ℕ). round f n m c) z (level a b (q tt) (u tt))
+    unlike s t false false p q r u k v w z = ap₂ (λ (n : Bool) (m : ℕ). round f n m c) z (omega (arith, q tt, u tt))
 
     go : (s t : Bool) → round f (negOf s a t b) (magOf s a t b) c ≡ round f (negOf t b s a) (magOf t b s a) c
     go true true = ap (λ (m : ℕ). round f true m c) (add-comm a b)
@@ -41,20 +35,14 @@ sum-comm f s a t b c = sum-is f s a t b c ∙ go s t ∙ sym (sum-is f t b s a c
 
 -- ---- what `jam` gives of o * 2 ^ g
 whole : (m d : ℕ) → m % 2 ^ d ≡ 0 → m ≡ m / 2 ^ d * 2 ^ d
-whole m d e = sym (div-add-mod' m (2 ^ d)) ∙ ap (λ (r : ℕ). m / 2 ^ d * 2 ^ d + r) e ∙ none (m / 2 ^ d * 2 ^ d)
-  where
-    none : (x : ℕ) → x + 0 ≡ x
-    none x = omega arith
+whole m d e = sym (div-add-mod' m (2 ^ d)) ∙ ap (λ (r : ℕ). m / 2 ^ d * 2 ^ d + r) e ∙ (omega arith)
 
 -- something is cut off, so the place is above g
 cut-above : (o g d : ℕ) → (o * 2 ^ g % 2 ^ d ≡ 0 → ⊥) → g < d
 cut-above o g d n = elim (side g d) [
   | inl l ↦ l
-  | inr l ↦ absurd (n (ap (λ (x : ℕ). x % 2 ^ d) (ap (λ (x : ℕ). o * x) (ap (λ (x : ℕ). 2 ^ x) (sym (back g d l)) ∙ pow-add 2 (g - d) d) ∙ sym (mul-assoc o (2 ^ (g - d)) (2 ^ d))) ∙ mul-mod-left (o * 2 ^ (g - d)) (2 ^ d)))
+  | inr l ↦ absurd (n (ap (λ (x : ℕ). x % 2 ^ d) (ap (λ (x : ℕ). o * x) (ap (λ (x : ℕ). 2 ^ x) (sym (omega arith)) ∙ pow-add 2 (g - d) d) ∙ sym (mul-assoc o (2 ^ (g - d)) (2 ^ d))) ∙ mul-mod-left (o * 2 ^ (g - d)) (2 ^ d)))
 ]
-  where
-    back : (g d : ℕ) → d ≤ g → g - d + d ≡ g
-    back g d l = omega arith
 
 pub jam-says : (o g d : ℕ) → Jammed o (o * 2 ^ g) d (jamOf (o * 2 ^ g) d)
 jam-says o g d = go (eqb (o * 2 ^ g % 2 ^ d) 0) (eqb-true (o * 2 ^ g % 2 ^ d) 0) (eqb-false (o * 2 ^ g % 2 ^ d) 0)
@@ -167,10 +155,7 @@ E-small x y = go (eqb (M x * M y) 0) (Q x) (Q y) (place-lt x) (place-lt y)
 
 first-pos : (a b : ℕ) → (a * b ≡ 0 → ⊥) → 0 < b
 first-pos a zero n = absurd (n (mul-zero a))
-first-pos a (suc b) n = some b
-  where
-    some : (b : ℕ) → 0 < suc b
-    some b = omega arith
+first-pos a (suc b) n = omega arith
 
 -- a product that is not zero of a significand with its leading digit
 led : (a b : ℕ) → 8388608 ≤ a → (a * b ≡ 0 → ⊥) → 8388608 ≤ a * b
@@ -179,23 +164,14 @@ led a b h n = le-trans (le-trans h (le-of-eq (sym (mul-one a)))) (mul-le-mul-lef
 pub product-placed : (x y : ℕ) → (8388608 ≤ M x * M y) ⊎ (E x y ≤ 163)
 product-placed x y = go (eqb (M x * M y) 0) (eqb-false (M x * M y) 0) (normal-or-low x) (normal-or-low y)
   where
-    two : 2 ≤ 163
-    two = omega arith
-
-    both : (p q : ℕ) → p ≡ 1 → q ≡ 1 → p + q ≤ 163
-    both p q e f = omega arith
-
     go : (b : Bool) → (b ≡ false → M x * M y ≡ 0 → ⊥) → (8388608 ≤ M x) ⊎ (Q x ≡ 1) → (8388608 ≤ M y) ⊎ (Q y ≡ 1) → (8388608 ≤ M x * M y) ⊎ (cond b 2 (Q x + Q y) ≤ 163)
-    go true n u v = inr two
+    go true n u v = inr (omega arith)
     go false n (inl g) v = inl (led (M x) (M y) g (n refl))
     go false n (inr e) (inl g) = inl (le-trans (led (M y) (M x) g (λ z. n refl (mul-comm (M x) (M y) ∙ z))) (le-of-eq (mul-comm (M y) (M x))))
-    go false n (inr e) (inr f) = inr (both (Q x) (Q y) e f)
+    go false n (inr e) (inr f) = inr (omega arith)
 
 pub addend-placed : (z : ℕ) → (8388608 ≤ M z) ⊎ (Q z + 126 ≤ 163)
-addend-placed z = elim (normal-or-low z) [ inl g ↦ inl g | inr e ↦ inr (low (Q z) e) ]
-  where
-    low : (q : ℕ) → q ≡ 1 → q + 126 ≤ 163
-    low q e = omega arith
+addend-placed z = elim (normal-or-low z) [ inl g ↦ inl g | inr e ↦ inr (omega arith) ]
 
 -- the same numbers, as the definition has them
 pub product-is : (x y : ℕ) → M x * M y * 2 ^ 14 * 2 ^ E x y ≡ M x * M y * 2 ^ (Q x + Q y + 14)
@@ -206,7 +182,4 @@ product-is x y = go (eqb (M x * M y) 0) (eqb-true (M x * M y) 0)
     go false e = mul-assoc (M x * M y) (2 ^ 14) (2 ^ (Q x + Q y)) ∙ ap (λ (k : ℕ). M x * M y * k) (mul-comm (2 ^ 14) (2 ^ (Q x + Q y)) ∙ sym (pow-add 2 (Q x + Q y) 14))
 
 pub addend-is : (z : ℕ) → M z * 2 ^ 38 * 2 ^ (Q z + 126) ≡ M z * 2 ^ (Q z + 164)
-addend-is z = mul-assoc (M z) (2 ^ 38) (2 ^ (Q z + 126)) ∙ ap (λ (k : ℕ). M z * k) (sym (pow-add 2 38 (Q z + 126)) ∙ ap (λ (k : ℕ). 2 ^ k) (level (Q z)))
-  where
-    level : (q : ℕ) → 38 + (q + 126) ≡ q + 164
-    level q = omega arith
+addend-is z = mul-assoc (M z) (2 ^ 38) (2 ^ (Q z + 126)) ∙ ap (λ (k : ℕ). M z * k) (sym (pow-add 2 38 (Q z + 126)) ∙ ap (λ (k : ℕ). 2 ^ k) (omega arith))

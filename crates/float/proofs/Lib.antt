@@ -14,4 +14,4 @@ pub mod Roots
 pub mod RootExact
 pub mod Near
 pub mod NearestRoot
-pub mod Table
+pub mod Examples

@@ -2,13 +2,13 @@
 use mathlib.Core.Path.{_≡_, refl, sym, ap, ap₂, _∙_, subst}
 use mathlib.Core.Logic.{_⊎_, inl, inr}
 use Prim.Native.Nat.{ℕ, zero, suc, _+_, _-_, _*_, _/_, _%_, _^_, _≤_, _<_, compare, Ordering, Ordering·lt, Ordering·eq, Ordering·gt}
-use native.Mathlib.Nat.{le-trans, le-of-eq, le-of-lt, lt-of-lt-of-le, lt-of-le-of-lt, lt-irrefl, not-le-of-lt, eq-zero-or-pos, eq-or-lt-of-le, mul-assoc, mul-comm, mul-left-comm, mul-right-comm, add-mul, suc-mul, mul-pos, mul-le-mul-left, mul-le-mul-right, mul-lt-mul-of-pos-right, lt-of-mul-lt-mul-right, le-of-mul-le-mul-right, mod-lt, mul-sub, div-add-mod', le-div-iff-mul-le, one-mul}
+use native.Mathlib.Nat.{le-trans, le-of-eq, le-of-lt, lt-of-lt-of-le, lt-irrefl, eq-zero-or-pos, eq-or-lt-of-le, mul-assoc, mul-comm, add-mul, suc-mul, mul-pos, mul-le-mul-left, mul-le-mul-right, mul-lt-mul-of-pos-right, lt-of-mul-lt-mul-right, mod-lt, mul-sub, div-add-mod', le-div-iff-mul-le}
 use native.Mathlib.Omega.{arith}
 use lib.Pow.{pow-add, pow-pos, pow-mono}
-use lib.Ieee.{nearest, size}
+use lib.Ieee.{nearest}
 use lib.Ieee.Nearest.{closest, nearest-ge}
 use lib.Ieee.Order.{drop, kept}
-use Rattle.float.proofs.Sticky.{Cmp, cmp, side, Dropped, drop-bounds}
+use Rattle.float.proofs.Sticky.{Cmp, cmp, side, drop-bounds}
 
 -- ---- how far `closest` can be from its fraction: half a unit
 closest-bounds : (n c : ℕ) → 0 < c → (2 * n ≤ 2 * (closest n c * c) + c) × (2 * (closest n c * c) ≤ 2 * n + c)
@@ -21,20 +21,11 @@ closest-bounds n c C = go (compare (n % c * 2) c) (cmp (n % c * 2) c)
     two q = half (q % 2) (small q) q
       where
         small : (q : ℕ) → (q % 2 ≡ 0) ⊎ (q % 2 ≡ 1)
-        small q = elim (eq-zero-or-pos (q % 2)) [ inl z ↦ inl z | inr p ↦ inr (one q p) ]
-          where
-            one : (q : ℕ) → 0 < q % 2 → q % 2 ≡ 1
-            one q p = omega arith
+        small q = elim (eq-zero-or-pos (q % 2)) [ inl z ↦ inl z | inr p ↦ inr (omega arith) ]
 
         half : (r : ℕ) → (r ≡ 0) ⊎ (r ≡ 1) → (q : ℕ) → (q + r ≡ q) ⊎ (q + r ≡ suc q)
-        half r (inl z) q = inl (zero-more q r z)
-          where
-            zero-more : (q r : ℕ) → r ≡ 0 → q + r ≡ q
-            zero-more q r z = omega arith
-        half r (inr z) q = inr (one-more q r z)
-          where
-            one-more : (q r : ℕ) → r ≡ 1 → q + r ≡ suc q
-            one-more q r z = omega arith
+        half r (inl z) q = inl (omega arith)
+        half r (inr z) q = inr (omega arith)
 
     same : (x r n c : ℕ) → x + r ≡ n → r * 2 ≤ c → (2 * n ≤ 2 * x + c) × (2 * x ≤ 2 * n + c)
     same x r n c e h = (omega arith, omega arith)
@@ -61,29 +52,17 @@ module _ (p n c q i : ℕ) (P : 0 < p) (C : 0 < c) (Q : q < 2 ^ p) where
   -- it is a whole number of the units that are kept, or below the first of them with all its digits
   unit-or-low : ((b : ℕ) × (q * 2 ^ i ≡ b * 2 ^ drop p n c)) ⊎ ((0 < drop p n c) × (q * 2 ^ i < 2 ^ (p - 1) * 2 ^ drop p n c))
   unit-or-low = elim (side i (drop p n c)) [
-    | inl l ↦ inr (positive i (drop p n c) l, lt-of-lt-of-le (mul-lt-mul-of-pos-right Q (pow-pos i)) (le-trans (le-of-eq (sym (pow-add 2 p i))) (le-trans (pow-mono (under p i (drop p n c) P l)) (le-of-eq (pow-add 2 (p - 1) (drop p n c))))))
-    | inr l ↦ inl (q * 2 ^ (i - drop p n c), ap (λ (x : ℕ). q * x) (ap (λ (x : ℕ). 2 ^ x) (sym (back i (drop p n c) l)) ∙ pow-add 2 (i - drop p n c) (drop p n c)) ∙ sym (mul-assoc q (2 ^ (i - drop p n c)) (2 ^ drop p n c)))
+    | inl l ↦ inr ((omega arith), lt-of-lt-of-le (mul-lt-mul-of-pos-right Q (pow-pos i)) (le-trans (le-of-eq (sym (pow-add 2 p i))) (le-trans (pow-mono (omega arith)) (le-of-eq (pow-add 2 (p - 1) (drop p n c))))))
+    | inr l ↦ inl (q * 2 ^ (i - drop p n c), ap (λ (x : ℕ). q * x) (ap (λ (x : ℕ). 2 ^ x) (sym (omega arith)) ∙ pow-add 2 (i - drop p n c) (drop p n c)) ∙ sym (mul-assoc q (2 ^ (i - drop p n c)) (2 ^ drop p n c)))
   ]
-    where
-      positive : (i k : ℕ) → i < k → 0 < k
-      positive i k l = omega arith
-
-      under : (p i k : ℕ) → 0 < p → i < k → p + i ≤ p - 1 + k
-      under p i k h l = omega arith
-
-      back : (i k : ℕ) → k ≤ i → i - k + k ≡ i
-      back i k l = omega arith
 
   -- where digits are dropped, all p digits are kept, and the fraction is no less than the first such value
   all-kept : 0 < drop p n c → (2 ^ (p - 1) ≤ kept p n c) × (2 ^ (p - 1) * 2 ^ drop p n c * c ≤ n)
   all-kept g =
       let k = drop p n c in
-      let low : 2 ^ (p - 1 + k) * c ≤ n = elim (drop-bounds p n c P C .1) [ inl z ↦ absurd (no-zero k z g) | inr l ↦ l ] in
+      let low : 2 ^ (p - 1 + k) * c ≤ n = elim (drop-bounds p n c P C .1) [ inl z ↦ absurd (omega arith) | inr l ↦ l ] in
       let low' : 2 ^ (p - 1) * 2 ^ k * c ≤ n = le-trans (le-of-eq (ap (λ (x : ℕ). x * c) (sym (pow-add 2 (p - 1) k)))) low in
       (le-trans (le-div-iff-mul-le {k = c * 2 ^ k} {x = 2 ^ (p - 1)} {y = n} (mul-pos C (pow-pos k)) .1 (le-trans (le-of-eq (ap (λ (x : ℕ). 2 ^ (p - 1) * x) (mul-comm c (2 ^ k)) ∙ sym (mul-assoc (2 ^ (p - 1)) (2 ^ k) c))) low')) (nearest-ge (n / (c * 2 ^ k)) (compare (n % (c * 2 ^ k) * 2) (c * 2 ^ k))), low')
-    where
-      no-zero : (k : ℕ) → k ≡ 0 → 0 < k → ⊥
-      no-zero k z g = omega arith
 
   -- the bounds on the fraction, in units
   half-unit : (2 * n ≤ (2 * (kept p n c * 2 ^ drop p n c) + 2 ^ drop p n c) * c) × (2 * (kept p n c * 2 ^ drop p n c) * c ≤ 2 * n + 2 ^ drop p n c * c)
@@ -105,10 +84,7 @@ module _ (p n c q i : ℕ) (P : 0 < p) (C : 0 < c) (Q : q < 2 ^ p) where
         | inl b ↦ subst (λ (x : ℕ). g * u + u ≤ x) (sym (b .1)) (le-trans (le-of-eq (sym (suc-mul g u))) (mul-le-mul-right u (lt-of-mul-lt-mul-right u (subst (λ (x : ℕ). g * u < x) (b .1) l))))
         | inr b ↦ absurd (lt-irrefl (g * u) (lt-of-lt-of-le l (le-trans (le-of-lt (b .1)) (mul-le-mul-right u (all-kept (b .0) .0)))))
       ] in
-      le-trans (half-unit .0) (mul-le-mul-right c (wide (g * u) u (q * 2 ^ i) gap))
-    where
-      wide : (g u b : ℕ) → g + u ≤ b → 2 * g + u ≤ g + b
-      wide g u b h = omega arith
+      le-trans (half-unit .0) (mul-le-mul-right c (omega arith))
 
   pub nearest-under : q * 2 ^ i < kept p n c * 2 ^ drop p n c → (kept p n c * 2 ^ drop p n c + q * 2 ^ i) * c ≤ 2 * n
   nearest-under l =
@@ -116,30 +92,15 @@ module _ (p n c q i : ℕ) (P : 0 < p) (C : 0 < c) (Q : q < 2 ^ p) where
       let g = kept p n c in
       let b = q * 2 ^ i in
       let far : b + u ≤ g * u → (g * u + b) * c ≤ 2 * n = λ h.
-      le-trans (mul-le-mul-right c (wide (g * u) u b h)) (cancel (2 * (g * u)) u c (2 * n) (close (g * u) u b h) (half-unit .1)) in
+      le-trans (mul-le-mul-right c (omega arith)) (cancel (2 * (g * u)) u c (2 * n) (omega arith) (half-unit .1)) in
       elim unit-or-low [
         | inl d ↦ far (subst (λ (x : ℕ). x + u ≤ g * u) (sym (d .1)) (le-trans (le-of-eq (sym (suc-mul (d .0) u))) (mul-le-mul-right u (lt-of-mul-lt-mul-right u (subst (λ (x : ℕ). x < g * u) (d .1) l)))))
         | inr d ↦ elim (eq-or-lt-of-le (all-kept (d .0) .0)) [
-          | inl e ↦ le-trans (mul-le-mul-right c (twice (g * u) b (le-of-lt l))) (le-trans (le-of-eq (mul-assoc 2 (g * u) c)) (mul-le-mul-left 2 (subst (λ (x : ℕ). x * u * c ≤ n) e (all-kept (d .0) .1))))
-          | inr s ↦ far (le-trans (room b (2 ^ (p - 1) * u) u (d .1)) (le-trans (le-of-eq (sym (suc-mul (2 ^ (p - 1)) u))) (mul-le-mul-right u s)))
+          | inl e ↦ le-trans (mul-le-mul-right c (omega (arith, le-of-lt l))) (le-trans (le-of-eq (mul-assoc 2 (g * u) c)) (mul-le-mul-left 2 (subst (λ (x : ℕ). x * u * c ≤ n) e (all-kept (d .0) .1))))
+          | inr s ↦ far (le-trans (omega (arith, d .1)) (le-trans (le-of-eq (sym (suc-mul (2 ^ (p - 1)) u))) (mul-le-mul-right u s)))
         ]
       ]
     where
-      wide : (g u b : ℕ) → b + u ≤ g → g + b ≤ 2 * g - u
-      wide g u b h = omega arith
-
-      close : (g u b : ℕ) → b + u ≤ g → u ≤ 2 * g
-      close g u b h = omega arith
-
-      twice : (g b : ℕ) → b ≤ g → g + b ≤ 2 * g
-      twice g b h = omega arith
-
-      room : (b m u : ℕ) → b < m → b + u ≤ m + u
-      room b m u h = omega arith
-
       cancel : (x u c n : ℕ) → u ≤ x → x * c ≤ n + u * c → (x - u) * c ≤ n
       cancel x u c n h k =
-          le-trans (le-of-eq (mul-comm (x - u) c ∙ mul-sub c x u)) (less (c * x) (c * u) n (le-trans (le-of-eq (mul-comm c x)) (le-trans k (le-of-eq (ap (λ (y : ℕ). n + y) (mul-comm u c))))))
-        where
-          less : (a b n : ℕ) → a ≤ n + b → a - b ≤ n
-          less a b n h = omega arith
+          le-trans (le-of-eq (mul-comm (x - u) c ∙ mul-sub c x u)) (omega (arith, (le-trans (le-of-eq (mul-comm c x)) (le-trans k (le-of-eq (ap (λ (y : ℕ). n + y) (mul-comm u c)))))))

@@ -2,29 +2,28 @@
 use mathlib.Core.Path.{_≡_, refl, sym, ap, ap₂, _∙_, subst}
 use mathlib.Core.Logic.{_⊎_, inl, inr}
 use Prim.Native.Nat.{ℕ, zero, suc, _+_, _-_, _*_, _/_, _%_, _^_, _≤_, _<_, zero-le, compare}
-use native.Mathlib.Nat.{le-trans, le-of-eq, le-of-lt, le-antisymm, lt-of-lt-of-le, lt-of-le-of-lt, lt-of-not-le, lt-irrefl, not-le-of-lt, zero-lt-suc, mul-assoc, mul-comm, mul-left-comm, mul-right-comm, mul-mul-mul-comm, mul-one, add-mul, mul-pos, mul-le-mul, mul-le-mul-left, mul-le-mul-right, mul-lt-mul-of-pos-right, lt-of-mul-lt-mul-right, le-of-mul-le-mul-right, eq-of-mul-eq-mul-right, div-lt-iff-lt-mul, mul-div-cancel, pow-suc, pow-succ', add-comm, one-mul, eq-or-lt-of-le, eq-zero-or-pos}
+use native.Mathlib.Nat.{le-trans, le-of-eq, le-of-lt, le-antisymm, lt-of-lt-of-le, lt-of-le-of-lt, lt-irrefl, zero-lt-suc, mul-assoc, mul-comm, mul-left-comm, mul-right-comm, mul-one, add-mul, mul-pos, mul-le-mul, mul-le-mul-left, mul-le-mul-right, mul-lt-mul-of-pos-right, lt-of-mul-lt-mul-right, le-of-mul-le-mul-right, eq-of-mul-eq-mul-right, div-lt-iff-lt-mul, pow-suc, pow-succ', add-comm, one-mul, eq-or-lt-of-le, eq-zero-or-pos}
 use native.Mathlib.Omega.{arith}
-use mathlib.Core.Bool.{Bool, true, false, true≢false}
+use mathlib.Core.Bool.{true, false, true≢false}
 use lib.Dec.{T, ltb, ltb→lt, lt→ltb, lit≤, lit<}
 use lib.Pow.{pow-add, pow-pos, pow-mono, pow-lt, shl-lt}
 use lib.IntN.{ℤ}
-use lib.Ieee.{Float, nan, inf, fin, Format, binary32, up, down, size, nearest, round, fits, lt, toBits, ofBits}
+use lib.Ieee.{Float, nan, inf, fin, binary32, up, down, size, nearest, round, fits, lt, toBits, ofBits}
 use lib.Ieee.Digits.{Equals, size-le}
-use lib.Ieee.Fits.{round-fits, nearest-le, up-pos, down-pos}
+use lib.Ieee.Fits.{round-fits, nearest-le, down-pos}
 use lib.Ieee.Bits.{ofBits-toBits}
 use lib.Ieee.Exact.{HasValue, round-exact}
 use lib.Ieee.Order.{drop, kept}
-use lib.Ieee.Scale.{grid, overflow, finite, round-val, round-under}
+use lib.Ieee.Scale.{grid, overflow, finite, round-val}
 use lib.Ieee.Positive.{num, den, positive, den-pos}
-use Rattle.float.specs.declared.Rounded.{Rounded}
-use Rattle.float.specs.declared.Rounded.the-variants.{Finite, Nothing}
-use Rattle.float.specs.Inside.{fieldOf, signOf, placeAt, bitsOf, M, Q}
+use Rattle.float.specs.declared.Rounded.the-variants.{Finite}
+use Rattle.float.specs.Inside.{fieldOf, placeAt, bitsOf, M, Q}
 use Rattle.float.specs.Finite.{rounded}
 use Rattle.float.specs.Root.{integerRoot, twiceRoot, rootOf}
 use Rattle.float.specs.Nearest.{notNegative, total, scale, RootBelowMiddle, RootAboveMiddle, NearestRoot}
 use Rattle.float.proofs.Sticky.{side, drop-bounds}
 use Rattle.float.proofs.Encode.{toBits-val, Signed}
-use Rattle.float.proofs.Decode.{Decoded, decoded, significand-lt, place-lt}
+use Rattle.float.proofs.Decode.{decoded, significand-lt, place-lt}
 use Rattle.float.proofs.Roots.{Root, integer-root, twice-exact, twice-cut, square-back}
 use Rattle.float.proofs.RootExact.{number, not-zero}
 use Rattle.float.proofs.Near.{nearest-over, nearest-under}
@@ -50,10 +49,7 @@ units-of (fin false m e) t p =
     (M b, Q b - 1, (significand-lt b, eq-of-mul-eq-mul-right 2 (pow-pos 1) (m * up e * 2 ^ 149) (M b * 2 ^ (Q b - 1) * down e) (mul-assoc (m * up e) (2 ^ 149) 2 ∙ ap (λ (k : ℕ). m * up e * k) (sym (pow-suc 2 149)) ∙ d .2 ∙ ap (λ (k : ℕ). M b * k * down e) (step (Q b) (place-pos b)) ∙ ap (λ (k : ℕ). k * down e) (sym (mul-assoc (M b) (2 ^ (Q b - 1)) 2)) ∙ mul-right-comm (M b * 2 ^ (Q b - 1)) 2 (down e))))
   where
     step : (k : ℕ) → 0 < k → 2 ^ k ≡ 2 ^ (k - 1) * 2
-    step k h = ap (λ (x : ℕ). 2 ^ x) (back k h) ∙ pow-suc 2 (k - 1)
-      where
-        back : (k : ℕ) → 0 < k → k ≡ suc (k - 1)
-        back k h = omega arith
+    step k h = ap (λ (x : ℕ). 2 ^ x) (omega arith) ∙ pow-suc 2 (k - 1)
 
 -- ---- what twice the root, with its sticky digit, says of a whole number s
 twice-le : (n s : ℕ) → twiceRoot n ≤ 2 * s → n ≤ s * s
@@ -63,19 +59,13 @@ twice-le n s h =
     elim (side (r * r) n) [
       | inl l ↦
           let w : twiceRoot n ≡ 2 * r + 1 = twice-cut n r p (λ e. lt-irrefl n (subst (λ (x : ℕ). x < n) e l)) in
-          let g : r + 1 ≤ s = a1 r s (le-trans (le-of-eq (sym w)) h) in
+          let g : r + 1 ≤ s = omega (arith, (le-trans (le-of-eq (sym w)) h)) in
           le-trans (le-of-lt (p .1)) (mul-le-mul g g)
       | inr l ↦
           let e : r * r ≡ n = le-antisymm (p .0) l in
-          let g : r ≤ s = a2 r s (le-trans (le-of-eq (sym (twice-exact n r p e))) h) in
+          let g : r ≤ s = omega (arith, (le-trans (le-of-eq (sym (twice-exact n r p e))) h)) in
           le-trans (le-of-eq (sym e)) (mul-le-mul g g)
     ]
-  where
-    a1 : (r s : ℕ) → 2 * r + 1 ≤ 2 * s → r + 1 ≤ s
-    a1 r s h = omega arith
-
-    a2 : (r s : ℕ) → 2 * r ≤ 2 * s → r ≤ s
-    a2 r s h = omega arith
 
 twice-at-most : (n : ℕ) → twiceRoot n ≤ 2 * integerRoot n + 1
 twice-at-most n =
@@ -83,20 +73,14 @@ twice-at-most n =
     let p : Root n r = integer-root n in
     elim (side (r * r) n) [
       | inl l ↦ le-of-eq (twice-cut n r p (λ e. lt-irrefl n (subst (λ (x : ℕ). x < n) e l)))
-      | inr l ↦ le-trans (le-of-eq (twice-exact n r p (le-antisymm (p .0) l))) (more (2 * r))
+      | inr l ↦ le-trans (le-of-eq (twice-exact n r p (le-antisymm (p .0) l))) (omega arith)
     ]
-  where
-    more : (x : ℕ) → x ≤ x + 1
-    more x = omega arith
 
 twice-ge : (n s : ℕ) → 2 * s ≤ twiceRoot n → s * s ≤ n
 twice-ge n s h =
     let r = integerRoot n in
-    let g : s ≤ r = a r s (le-trans h (twice-at-most n)) in
+    let g : s ≤ r = omega (arith, (le-trans h (twice-at-most n))) in
     le-trans (mul-le-mul g g) (integer-root n .0)
-  where
-    a : (r s : ℕ) → 2 * s ≤ 2 * r + 1 → s ≤ r
-    a r s h = omega arith
 
 -- ---- from smallest values to fractions. x is n / 2 ^ 300, y is g and z is b smallest values
 module _ (x y z : Float) (n g b : ℕ) (X : num x * 2 ^ 300 ≡ n * den x) (Y : num y * 2 ^ 149 ≡ g * den y) (Z : num z * 2 ^ 149 ≡ b * den z) where
@@ -205,7 +189,7 @@ number-of (fin false (suc k) e) t p =
       (
         exact k e (M b) (Q b) (d .2),
         ap (λ (z : ℕ). rounded (round binary32 false (twiceRoot z) (2 ^ 151))) q,
-        (M b, Q b + 150, significand-lt b, has k e (M b) (Q b) (d .2), low (Q b) (place-pos b), high (Q b) (place-lt b), refl),
+        (M b, Q b + 150, significand-lt b, has k e (M b) (Q b) (d .2), omega (arith, place-pos b), omega (arith, place-lt b), refl),
       ),
     )
   where
@@ -219,12 +203,6 @@ number-of (fin false (suc k) e) t p =
       | inl z ↦ absurd (not-zero k e m q h z)
       | inr p ↦ p
     ]
-
-    low : (q : ℕ) → 0 < q → 150 < q + 150
-    low q h = omega arith
-
-    high : (q : ℕ) → q < 256 → q + 150 < 406
-    high q h = omega arith
 
 -- ---- the root is finite: in smallest values it is below 2 ^ 216
 root-under : (n : ℕ) → n < 2 ^ 430 → grid binary32 (twiceRoot n) (2 ^ 151) < overflow binary32
@@ -370,11 +348,8 @@ middle s (q, suc i, l, e) big top =
     let s-is : s ≡ 2 * h = e ∙ ap (λ (x : ℕ). q * x) (pow-succ' 2 i) ∙ mul-left-comm q 2 (2 ^ i) in
     let z = round binary32 false h (2 ^ 149) in
     let v : HasValue z false h (2 ^ 149) =
-    round-exact binary32 false h (2 ^ 149) q i (pow-pos 149) (lt-of-lt-of-le l (lit≤ tt)) (lt-of-lt-of-le (lt-of-le-of-lt (half h s s-is) top) (pow-mono {i = 215} {j = 277} (lit≤ tt))) refl in
+    round-exact binary32 false h (2 ^ 149) q i (pow-pos 149) (lt-of-lt-of-le l (lit≤ tt)) (lt-of-lt-of-le (lt-of-le-of-lt (omega (arith, s-is)) top) (pow-mono {i = 215} {j = 277} (lit≤ tt))) refl in
     (z, h, round-fits binary32 false h (2 ^ 149), plus-of z h v, value-of z h v, s-is)
-  where
-    half : (h s : ℕ) → s ≡ 2 * h → h ≤ s
-    half h s e = omega arith
 
 -- two values of the same size are the same
 signed-of : (v : Float) → T (notNegative v) → Signed false v

@@ -1,8 +1,8 @@
 -- Exponents of either sign, each as a difference of two natural numbers: `subℕ a b` is a - b. Sums, differences, negations and comparisons of such are plain arithmetic.
 use mathlib.Core.Path.{_≡_, refl, sym, ap, ap₂, _∙_, subst}
-use mathlib.Core.Logic.{_⊎_, inl, inr}
-use Prim.Native.Nat.{ℕ, zero, suc, _+_, _-_, _*_, _^_, _≤_, _<_}
-use native.Mathlib.Nat.{le-of-lt, lt-of-lt-of-le, lt-of-le-of-lt}
+use mathlib.Core.Logic.{inl, inr}
+use Prim.Native.Nat.{ℕ, zero, suc, _+_, _-_, _≤_, _<_}
+use native.Mathlib.Nat.{le-of-lt, lt-of-lt-of-le}
 use native.Mathlib.Omega.{arith}
 use mathlib.Core.Bool.{Bool, true, false, not, cond, true≢false}
 use lib.IntN.{ℤ, pos, negsuc, negℤ, natAbs, subℕ, _+ℤ_, _-ℤ_}
@@ -22,115 +22,49 @@ at-above a b h = ap (λ (t : Bool). cond t (negsuc (b - suc a)) (pos (a - b))) (
 
 pub sub-same : (a b c d : ℕ) → a + d ≡ c + b → subℕ a b ≡ subℕ c d
 sub-same a b c d e = elim (side a b) [
-  | inl l ↦ at-below a b l ∙ ap negsuc (x1 a b c d e l) ∙ sym (at-below c d (x2 a b c d e l))
-  | inr l ↦ at-above a b l ∙ ap pos (x3 a b c d e l) ∙ sym (at-above c d (x4 a b c d e l))
+  | inl l ↦ at-below a b l ∙ ap negsuc (omega arith) ∙ sym (at-below c d (omega arith))
+  | inr l ↦ at-above a b l ∙ ap pos (omega arith) ∙ sym (at-above c d (omega arith))
 ]
-  where
-    x1 : (a b c d : ℕ) → a + d ≡ c + b → a < b → b - suc a ≡ d - suc c
-    x1 a b c d e l = omega arith
-
-    x2 : (a b c d : ℕ) → a + d ≡ c + b → a < b → c < d
-    x2 a b c d e l = omega arith
-
-    x3 : (a b c d : ℕ) → a + d ≡ c + b → b ≤ a → a - b ≡ c - d
-    x3 a b c d e l = omega arith
-
-    x4 : (a b c d : ℕ) → a + d ≡ c + b → b ≤ a → d ≤ c
-    x4 a b c d e l = omega arith
 
 pub sub-add : (a b c d : ℕ) → subℕ a b +ℤ subℕ c d ≡ subℕ (a + c) (b + d)
 sub-add a b c d = elim (side a b) [
   | inl l ↦ elim (side c d) [
-    | inl k ↦ ap₂ (λ (x y : ℤ). x +ℤ y) (at-below a b l) (at-below c d k) ∙ ap negsuc (x1 a b c d l k) ∙ sym (at-below (a + c) (b + d) (x2 a b c d l k))
-    | inr k ↦ ap₂ (λ (x y : ℤ). x +ℤ y) (at-below a b l) (at-above c d k) ∙ sub-same (c - d) (suc (b - suc a)) (a + c) (b + d) (x3 a b c d l k)
+    | inl k ↦ ap₂ (λ (x y : ℤ). x +ℤ y) (at-below a b l) (at-below c d k) ∙ ap negsuc (omega arith) ∙ sym (at-below (a + c) (b + d) (omega arith))
+    | inr k ↦ ap₂ (λ (x y : ℤ). x +ℤ y) (at-below a b l) (at-above c d k) ∙ sub-same (c - d) (suc (b - suc a)) (a + c) (b + d) (omega arith)
   ]
   | inr l ↦ elim (side c d) [
-    | inl k ↦ ap₂ (λ (x y : ℤ). x +ℤ y) (at-above a b l) (at-below c d k) ∙ sub-same (a - b) (suc (d - suc c)) (a + c) (b + d) (x4 a b c d l k)
-    | inr k ↦ ap₂ (λ (x y : ℤ). x +ℤ y) (at-above a b l) (at-above c d k) ∙ ap pos (x5 a b c d l k) ∙ sym (at-above (a + c) (b + d) (x6 a b c d l k))
+    | inl k ↦ ap₂ (λ (x y : ℤ). x +ℤ y) (at-above a b l) (at-below c d k) ∙ sub-same (a - b) (suc (d - suc c)) (a + c) (b + d) (omega arith)
+    | inr k ↦ ap₂ (λ (x y : ℤ). x +ℤ y) (at-above a b l) (at-above c d k) ∙ ap pos (omega arith) ∙ sym (at-above (a + c) (b + d) (omega arith))
   ]
 ]
-  where
-    x1 : (a b c d : ℕ) → a < b → c < d → suc (b - suc a + (d - suc c)) ≡ b + d - suc (a + c)
-    x1 a b c d l k = omega arith
-
-    x2 : (a b c d : ℕ) → a < b → c < d → a + c < b + d
-    x2 a b c d l k = omega arith
-
-    x3 : (a b c d : ℕ) → a < b → d ≤ c → c - d + (b + d) ≡ a + c + suc (b - suc a)
-    x3 a b c d l k = omega arith
-
-    x4 : (a b c d : ℕ) → b ≤ a → c < d → a - b + (b + d) ≡ a + c + suc (d - suc c)
-    x4 a b c d l k = omega arith
-
-    x5 : (a b c d : ℕ) → b ≤ a → d ≤ c → a - b + (c - d) ≡ a + c - (b + d)
-    x5 a b c d l k = omega arith
-
-    x6 : (a b c d : ℕ) → b ≤ a → d ≤ c → b + d ≤ a + c
-    x6 a b c d l k = omega arith
 
 neg-pos : (n : ℕ) → negℤ (pos n) ≡ subℕ 0 n
 neg-pos zero = refl
-neg-pos (suc n) = sym (at-below 0 (suc n) (positive n) ∙ ap negsuc (drop n))
-  where
-    positive : (n : ℕ) → 0 < suc n
-    positive n = omega arith
-
-    drop : (n : ℕ) → suc n - 1 ≡ n
-    drop n = omega arith
+neg-pos (suc n) = sym (at-below 0 (suc n) (omega arith) ∙ ap negsuc (omega arith))
 
 pub sub-neg : (a b : ℕ) → negℤ (subℕ a b) ≡ subℕ b a
 sub-neg a b = elim (side a b) [
-  | inl l ↦ ap negℤ (at-below a b l) ∙ ap pos (x1 a b l) ∙ sym (at-above b a (le-of-lt l))
-  | inr l ↦ ap negℤ (at-above a b l) ∙ neg-pos (a - b) ∙ sub-same 0 (a - b) b a (x2 a b l)
+  | inl l ↦ ap negℤ (at-below a b l) ∙ ap pos (omega arith) ∙ sym (at-above b a (le-of-lt l))
+  | inr l ↦ ap negℤ (at-above a b l) ∙ neg-pos (a - b) ∙ sub-same 0 (a - b) b a (omega arith)
 ]
-  where
-    x1 : (a b : ℕ) → a < b → suc (b - suc a) ≡ b - a
-    x1 a b l = omega arith
-
-    x2 : (a b : ℕ) → b ≤ a → 0 + a ≡ b + (a - b)
-    x2 a b l = omega arith
 
 pub sub-sub : (a b c d : ℕ) → subℕ a b -ℤ subℕ c d ≡ subℕ (a + d) (b + c)
 sub-sub a b c d = ap (λ (x : ℤ). subℕ a b +ℤ x) (sub-neg c d) ∙ sub-add a b d c
 
 -- a natural number as a difference
 pub at-zero : (n : ℕ) → pos n ≡ subℕ n 0
-at-zero n = sym (at-above n 0 (all n) ∙ ap pos (none n))
-  where
-    all : (n : ℕ) → 0 ≤ n
-    all n = omega arith
-
-    none : (n : ℕ) → n - 0 ≡ n
-    none n = omega arith
+at-zero n = sym (at-above n 0 (omega arith) ∙ ap pos (omega arith))
 
 pub mag-sub : (a b k : ℕ) → a < k → b < k → mag (subℕ a b) < k
 mag-sub a b k l m = elim (side a b) [
-  | inl g ↦ subst (λ (z : ℤ). mag z < k) (sym (at-below a b g)) (x1 a b k m)
-  | inr g ↦ subst (λ (z : ℤ). mag z < k) (sym (at-above a b g)) (x2 a b k l)
+  | inl g ↦ subst (λ (z : ℤ). mag z < k) (sym (at-below a b g)) (omega arith)
+  | inr g ↦ subst (λ (z : ℤ). mag z < k) (sym (at-above a b g)) (omega arith)
 ]
-  where
-    x1 : (a b k : ℕ) → b < k → b - suc a < k
-    x1 a b k h = omega arith
-
-    x2 : (a b k : ℕ) → a < k → a - b < k
-    x2 a b k h = omega arith
 
 -- every integer is such a difference, of numbers that its size bounds
 pub split : (z : ℤ) (k : ℕ) → mag z < k → (a : ℕ) × (b : ℕ) × (z ≡ subℕ a b) × (a < suc k) × (b < suc k)
-split (pos n) k h = (n, 0, at-zero n, x1 n k h, x2 k)
-  where
-    x1 : (n k : ℕ) → n < k → n < suc k
-    x1 n k h = omega arith
-
-    x2 : (k : ℕ) → 0 < suc k
-    x2 k = omega arith
-split (negsuc n) k h = (0, suc n, sym (ap (λ (t : ℤ). t) (sym (neg-pos (suc n)))), x2 k, x1 n k h)
-  where
-    x1 : (n k : ℕ) → n < k → suc n < suc k
-    x1 n k h = omega arith
-
-    x2 : (k : ℕ) → 0 < suc k
-    x2 k = omega arith
+split (pos n) k h = (n, 0, at-zero n, omega arith, omega arith)
+split (negsuc n) k h = (0, suc n, sym (ap (λ (t : ℤ). t) (sym (neg-pos (suc n)))), omega arith, omega arith)
 
 -- ---- i32: a local holds bits, which are read back as the number
 abbrev pub held : ℤ → ℤ
@@ -150,19 +84,13 @@ pub mag-plus : (a b : ℤ) (k l : ℕ) → mag a < k → mag b < l → mag (a +�
 mag-plus a b k l h g =
     let x = split a k h in
     let y = split b l g in
-    subst (λ (z : ℤ). mag z < k + l + 1) (sym (ap₂ (λ (u v : ℤ). u +ℤ v) (x .2) (y .2) ∙ sub-add (x .0) (x .1) (y .0) (y .1))) (mag-sub (x .0 + y .0) (x .1 + y .1) (k + l + 1) (both (x .0) (y .0) k l (x .3) (y .3)) (both (x .1) (y .1) k l (x .4) (y .4)))
-  where
-    both : (a b k l : ℕ) → a < suc k → b < suc l → a + b < k + l + 1
-    both a b k l h g = omega arith
+    subst (λ (z : ℤ). mag z < k + l + 1) (sym (ap₂ (λ (u v : ℤ). u +ℤ v) (x .2) (y .2) ∙ sub-add (x .0) (x .1) (y .0) (y .1))) (mag-sub (x .0 + y .0) (x .1 + y .1) (k + l + 1) (omega (arith, x .3, y .3)) (omega (arith, x .4, y .4)))
 
 pub mag-less : (a b : ℤ) (k l : ℕ) → mag a < k → mag b < l → mag (a -ℤ b) < k + l + 1
 mag-less a b k l h g =
     let x = split a k h in
     let y = split b l g in
-    subst (λ (z : ℤ). mag z < k + l + 1) (sym (ap₂ (λ (u v : ℤ). u -ℤ v) (x .2) (y .2) ∙ sub-sub (x .0) (x .1) (y .0) (y .1))) (mag-sub (x .0 + y .1) (x .1 + y .0) (k + l + 1) (both (x .0) (y .1) k l (x .3) (y .4)) (both (x .1) (y .0) k l (x .4) (y .3)))
-  where
-    both : (a b k l : ℕ) → a < suc k → b < suc l → a + b < k + l + 1
-    both a b k l h g = omega arith
+    subst (λ (z : ℤ). mag z < k + l + 1) (sym (ap₂ (λ (u v : ℤ). u -ℤ v) (x .2) (y .2) ∙ sub-sub (x .0) (x .1) (y .0) (y .1))) (mag-sub (x .0 + y .1) (x .1 + y .0) (k + l + 1) (omega (arith, x .3, y .4)) (omega (arith, x .4, y .3)))
 
 -- ---- a number tested against 0, and cast
 pub nonNeg-of : (z : ℤ) → ltZ z (pos 0) ≡ false → T (nonNeg z)
@@ -170,14 +98,8 @@ nonNeg-of (pos n) h = tt
 nonNeg-of (negsuc n) h = absurd (true≢false h)
 
 pub natAbs-lt : (z : ℤ) (k : ℕ) → mag z < k → natAbs z < suc k
-natAbs-lt (pos n) k h = x1 n k h
-  where
-    x1 : (n k : ℕ) → n < k → n < suc k
-    x1 n k h = omega arith
-natAbs-lt (negsuc n) k h = x1 n k h
-  where
-    x1 : (n k : ℕ) → n < k → suc n < suc k
-    x1 n k h = omega arith
+natAbs-lt (pos n) k h = omega arith
+natAbs-lt (negsuc n) k h = omega arith
 
 pub cast-out : (z : ℤ) → mag z < 100000 → Fits w32 (natAbs z)
 cast-out z h = record { fits = lt-of-lt-of-le (natAbs-lt z 100000 h) (lit≤ tt) }
@@ -190,19 +112,13 @@ pub natAbs-below : (a b : ℕ) → ltZ (subℕ a b) (pos 0) ≡ true → natAbs 
 natAbs-below a b h = elim (side a b) [ inl l ↦ ap natAbs (at-above b a (le-of-lt l)) | inr l ↦ absurd (no (a - b) (sym (ap (λ (z : ℤ). ltZ z (pos 0)) (at-above a b l)) ∙ h)) ]
   where
     no : (n : ℕ) → ltb n 0 ≡ true → ⊥
-    no n h = none n (ltb-true n 0 h)
-      where
-        none : (n : ℕ) → n < 0 → ⊥
-        none n h = omega arith
+    no n h = omega (arith, ltb-true n 0 h)
 
 pub lt-of-negative : (a b : ℕ) → ltZ (subℕ a b) (pos 0) ≡ true → a < b
 lt-of-negative a b h = elim (side a b) [ inl l ↦ l | inr l ↦ absurd (no (a - b) (sym (ap (λ (z : ℤ). ltZ z (pos 0)) (at-above a b l)) ∙ h)) ]
   where
     no : (n : ℕ) → ltb n 0 ≡ true → ⊥
-    no n h = none n (ltb-true n 0 h)
-      where
-        none : (n : ℕ) → n < 0 → ⊥
-        none n h = omega arith
+    no n h = omega (arith, ltb-true n 0 h)
 
 pub le-of-nonNeg : (a b : ℕ) → ltZ (subℕ a b) (pos 0) ≡ false → b ≤ a
 le-of-nonNeg a b h = elim (side a b) [ inl l ↦ absurd (true≢false (sym (ap (λ (z : ℤ). ltZ z (pos 0)) (at-below a b l)) ∙ h)) | inr l ↦ l ]
@@ -231,10 +147,7 @@ back' z h = back z (small (mag z) 10000 h tt)
 
 -- the opposite of a negative number
 no-zero : (n : ℕ) → ltb n 0 ≡ true → ⊥
-no-zero n h = none n (ltb-true n 0 h)
-  where
-    none : (n : ℕ) → n < 0 → ⊥
-    none n h = omega arith
+no-zero n h = omega (arith, ltb-true n 0 h)
 
 pub negated-nonNeg : (z : ℤ) → ltZ z (pos 0) ≡ true → T (nonNeg (pos 0 -ℤ z))
 negated-nonNeg (pos n) h = absurd (no-zero n h)
@@ -242,10 +155,7 @@ negated-nonNeg (negsuc n) h = tt
 
 pub turned-lt : (z : ℤ) (k : ℕ) → ltZ z (pos 0) ≡ true → mag z < k → natAbs (pos 0 -ℤ z) < suc k
 turned-lt (pos n) k h g = absurd (no-zero n h)
-turned-lt (negsuc n) k h g = x1 n k g
-  where
-    x1 : (n k : ℕ) → n < k → 0 + suc n < suc k
-    x1 n k g = omega arith
+turned-lt (negsuc n) k h g = omega arith
 
 -- an exponent's local, as a callee is handed it
 pub place-held : (e : ℤ) → mag e < 1000 → held e ≡ e
@@ -266,31 +176,16 @@ pub lt-places : (x y k : ℕ) → ltZ (subℕ x k) (subℕ y k) ≡ ltb x y
 lt-places x y k = elim (side x k) [
   | inl a ↦ elim (side y k) [
     | inl b ↦ ap₂ (λ (u v : ℤ). ltZ u v) (at-below x k a) (at-below y k b) ∙ elim (side x y) [
-      | inl l ↦ lt-ltb (k - suc y) (k - suc x) (x1 x y k a b l) ∙ sym (lt-ltb x y l)
-      | inr l ↦ le-ltb (k - suc y) (k - suc x) (x2 x y k l) ∙ sym (le-ltb x y l)
+      | inl l ↦ lt-ltb (k - suc y) (k - suc x) (omega arith) ∙ sym (lt-ltb x y l)
+      | inr l ↦ le-ltb (k - suc y) (k - suc x) (omega arith) ∙ sym (le-ltb x y l)
     ]
     | inr b ↦ ap₂ (λ (u v : ℤ). ltZ u v) (at-below x k a) (at-above y k b) ∙ sym (lt-ltb x y (lt-of-lt-of-le a b))
   ]
   | inr a ↦ elim (side y k) [
-    | inl b ↦ ap₂ (λ (u v : ℤ). ltZ u v) (at-above x k a) (at-below y k b) ∙ sym (le-ltb x y (x3 x y k a b))
+    | inl b ↦ ap₂ (λ (u v : ℤ). ltZ u v) (at-above x k a) (at-below y k b) ∙ sym (le-ltb x y (omega arith))
     | inr b ↦ ap₂ (λ (u v : ℤ). ltZ u v) (at-above x k a) (at-above y k b) ∙ elim (side x y) [
-      | inl l ↦ lt-ltb (x - k) (y - k) (x4 x y k a l) ∙ sym (lt-ltb x y l)
-      | inr l ↦ le-ltb (x - k) (y - k) (x5 x y k l) ∙ sym (le-ltb x y l)
+      | inl l ↦ lt-ltb (x - k) (y - k) (omega arith) ∙ sym (lt-ltb x y l)
+      | inr l ↦ le-ltb (x - k) (y - k) (omega arith) ∙ sym (le-ltb x y l)
     ]
   ]
 ]
-  where
-    x1 : (x y k : ℕ) → x < k → y < k → x < y → k - suc y < k - suc x
-    x1 x y k a b l = omega arith
-
-    x2 : (x y k : ℕ) → y ≤ x → k - suc x ≤ k - suc y
-    x2 x y k l = omega arith
-
-    x3 : (x y k : ℕ) → k ≤ x → y < k → y ≤ x
-    x3 x y k a b = omega arith
-
-    x4 : (x y k : ℕ) → k ≤ x → x < y → x - k < y - k
-    x4 x y k a l = omega arith
-
-    x5 : (x y k : ℕ) → y ≤ x → y - k ≤ x - k
-    x5 x y k l = omega arith

@@ -1,15 +1,14 @@
 -- The definition of the root, on the bits' parts.
-use mathlib.Core.Path.{_≡_, refl, sym, ap, ap₂, _∙_, subst}
-use Prim.Native.Nat.{ℕ, zero, suc, _+_, _*_, _/_, _%_, _^_, _<_}
+use mathlib.Core.Path.{_≡_, refl, sym, ap, _∙_, subst}
+use Prim.Native.Nat.{ℕ, zero, suc, _+_, _*_, _/_, _^_, _<_}
 use native.Mathlib.Nat.{lt-irrefl, zero-lt-suc, zero-mul, mul-assoc, mul-right-comm, mul-pos, mul-div-cancel, eq-zero-or-pos}
-use mathlib.Core.Logic.{_⊎_, inl, inr}
-use mathlib.Core.Bool.{Bool, true, false, true≢false, false≢true}
+use mathlib.Core.Logic.{inl, inr}
+use mathlib.Core.Bool.{true, false, true≢false, false≢true}
 use lib.Dec.{T}
 use lib.Pow.{pow-add, pow-pos}
 use lib.IntN.{ℤ}
 use lib.Ieee.{Float, nan, inf, fin, binary32, up, down, round, fits}
 use lib.Ieee.Fits.{up-pos, down-pos}
-use Rattle.float.specs.declared.Rounded.{Rounded}
 use Rattle.float.specs.declared.Rounded.the-variants.{Finite, Nothing}
 use Rattle.float.specs.Inside.{fieldOf, signOf, bitsOf, M, Q}
 use Rattle.float.specs.Finite.{rounded}

@@ -1,18 +1,17 @@
 -- The integer root, and what it says of the rounded root.
-use mathlib.Core.Path.{_≡_, refl, sym, ap, ap₂, _∙_, subst}
-use mathlib.Core.Logic.{_⊎_, inl, inr}
-use Prim.Native.Nat.{ℕ, zero, suc, _+_, _-_, _*_, _/_, _%_, _^_, _≤_, _<_, zero-le}
-use native.Mathlib.Nat.{le-trans, le-of-eq, le-of-lt, le-antisymm, le-of-suc-le-suc, lt-of-lt-of-le, lt-of-le-of-lt, lt-of-not-le, not-le-of-lt, lt-irrefl, add-assoc, add-comm, zero-add, mul-le-mul, mul-le-mul-left, mul-le-mul-right, mul-lt-mul-of-pos-right, lt-of-mul-lt-mul-right, le-of-mul-le-mul-right, mul-assoc, mul-comm, mul-left-comm, mul-right-comm, mul-mul-mul-comm, mul-one, one-mul, mul-add, eq-of-mul-eq-mul-right, add-mul, mul-pos, two-pow-succ}
-use native.Mathlib.Numerals.{add-one}
+use mathlib.Core.Path.{_≡_, sym, ap, ap₂, _∙_, subst}
+use mathlib.Core.Logic.{inl, inr}
+use Prim.Native.Nat.{ℕ, zero, suc, _+_, _-_, _*_, _^_, _≤_, _<_, zero-le}
+use native.Mathlib.Nat.{le-trans, le-of-eq, le-of-lt, le-antisymm, lt-of-lt-of-le, lt-of-le-of-lt, lt-of-not-le, not-le-of-lt, lt-irrefl, add-assoc, zero-add, mul-le-mul, mul-le-mul-left, mul-le-mul-right, mul-lt-mul-of-pos-right, mul-assoc, mul-mul-mul-comm, mul-one, one-mul, mul-add, eq-of-mul-eq-mul-right, add-mul, mul-pos, two-pow-succ}
 use native.Mathlib.Omega.{arith}
 use mathlib.Core.Bool.{Bool, true, false, not, cond}
-use lib.Dec.{T, leb, eqb, leb→le, nleb→lt, lit≤}
+use lib.Dec.{T, leb, eqb, leb→le, nleb→lt}
 use lib.Arith.{lt-of-le-ne}
-use lib.Pow.{pow-add, pow-pos, pow-mono}
-use lib.Ieee.{Float, Format, binary32, size, round}
+use lib.Pow.{pow-add, pow-pos}
+use lib.Ieee.{binary32, size, round}
 use lib.Ieee.Digits.{size-lt}
 use lib.Ieee.Scale.{round-same}
-use borrow.Author.Tests.{eqb-true, eqb-false, eq-eqb, ne-eqb}
+use borrow.Author.Tests.{eq-eqb, ne-eqb}
 use Rattle.float.specs.Root.{rootFrom, integerRoot, twiceRoot}
 use Rattle.float.proofs.Sticky.{sticky-high, side}
 

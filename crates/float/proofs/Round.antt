@@ -1,18 +1,17 @@
 -- A word at a place, its top digit brought to bit 62: the bits that the code puts together are those of its rounded value.
-use mathlib.Core.Path.{_≡_, refl, sym, ap, ap₂, _∙_, subst}
+use mathlib.Core.Path.{_≡_, refl, sym, ap, ap₂, _∙_}
 use mathlib.Core.Logic.{_⊎_, inl, inr}
-use Prim.Native.Nat.{ℕ, zero, suc, _+_, _-_, _*_, _/_, _%_, _^_, _≤_, _<_}
-use native.Mathlib.Nat.{le-trans, le-of-eq, lt-of-lt-of-le, lt-of-le-of-lt, lt-of-not-le, lt-irrefl, zero-mul, mul-assoc, mul-comm, mul-right-comm, mul-le-mul-right, mul-lt-mul-of-pos-right, mod-eq-of-lt}
+use Prim.Native.Nat.{ℕ, zero, suc, _+_, _-_, _*_, _^_, _≤_, _<_}
+use native.Mathlib.Nat.{le-trans, le-of-eq, lt-of-lt-of-le, lt-of-le-of-lt, zero-mul, mul-assoc, mul-comm, mul-right-comm, mul-le-mul-right, mul-lt-mul-of-pos-right}
 use native.Mathlib.Omega.{arith}
 use mathlib.Core.Bool.{Bool, true, false, cond}
-use lib.Dec.{ltb, lit≤}
-use lib.Pow.{pow-add, pow-pos, pow-mono}
+use lib.Dec.{lit≤}
+use lib.Pow.{pow-add, pow-pos}
 use lib.Count.{leadingZeros, leading-top}
-use lib.Ieee.{Float, nan, inf, fin, binary32, odd, units, round, ofBits}
+use lib.Ieee.{binary32, odd, units, round, ofBits}
 use lib.Ieee.Nearest.{closest}
 use lib.Ieee.Scale.{round-same}
 use borrow.Author.Tests.{lt-ltb, le-ltb}
-use Rattle.float.specs.declared.Rounded.{Rounded}
 use Rattle.float.specs.declared.Rounded.the-variants.{Finite, Nothing}
 use Rattle.float.specs.Finite.{rounded}
 use Rattle.float.specs.Inside.{packOf}
@@ -53,18 +52,12 @@ pub word-packs : (s : Bool) (w u x : ℕ) → 2 ^ 62 ≤ w * 2 ^ u → w * 2 ^ u
 word-packs s w u x lo hi =
     let n = w * 2 ^ u in
     let j = 314 + u in
-    ap₂ (λ (a b : ℕ). packOf s (a * 8388608 + closest n (2 ^ (39 + b)))) (k-is x u) (h-is x u)
+    ap₂ (λ (a b : ℕ). packOf s (a * 8388608 + closest n (2 ^ (39 + b)))) (omega arith) (omega arith)
     ∙ units-pack s (closest n (2 ^ (39 + (j - (x + 149 + 39))))) (x + 149 + 39 - j) (word-le binary32 s n 39 x j lo hi) (word-ge binary32 s n 39 x j lo hi)
     ∙ ap rounded
     (sym (round-word binary32 s n 39 x j lo hi)
     ∙ round-same binary32 s (n * 2 ^ x) (2 ^ j) (w * 2 ^ x) (2 ^ 314) (pow-pos j) (pow-pos 314)
     (ap (λ (z : ℕ). z * 2 ^ 314) (mul-right-comm w (2 ^ u) (2 ^ x)) ∙ mul-assoc (w * 2 ^ x) (2 ^ u) (2 ^ 314) ∙ ap (λ (z : ℕ). w * 2 ^ x * z) (mul-comm (2 ^ u) (2 ^ 314) ∙ sym (pow-add 2 314 u))))
-  where
-    k-is : (x u : ℕ) → x - (126 + u) ≡ x + 149 + 39 - (314 + u)
-    k-is x u = omega arith
-
-    h-is : (x u : ℕ) → 126 + u - x ≡ 314 + u - (x + 149 + 39)
-    h-is x u = omega arith
 
 -- ---- the leading zeros place the top digit
 abbrev pub Placed : ℕ → ℕ → Type 0

@@ -1,14 +1,14 @@
 -- Rounding looks only at the kept digits and at whether anything is below: a tail may be replaced by a sticky digit.
 use mathlib.Core.Path.{_≡_, refl, sym, ap, ap₂, _∙_, subst}
 use mathlib.Core.Logic.{_⊎_, inl, inr}
-use Prim.Native.Nat.{ℕ, zero, suc, _+_, _-_, _*_, _/_, _%_, _^_, _≤_, _<_, compare, Ordering, Ordering·lt, Ordering·eq, Ordering·gt}
-use native.Mathlib.Nat.{le-antisymm, le-refl, le-trans, le-of-eq, le-of-suc-le-suc, le-of-lt, lt-of-lt-of-le, lt-of-le-of-lt, lt-of-not-le, lt-irrefl, eq-zero-or-pos, eq-or-lt-of-le, mod-lt, add-assoc, add-comm, mul-pos, mul-comm, mul-assoc, mul-left-comm, mul-right-comm, mul-le-mul-left, mul-le-mul-right, mul-lt-mul-of-pos-right, lt-of-mul-lt-mul-right, le-of-mul-le-mul-right, add-mul, mul-add, one-mul, mul-one, suc-mul, le-div-iff-mul-le, div-lt-iff-lt-mul, div-add-mod'}
+use Prim.Native.Nat.{ℕ, suc, _+_, _-_, _*_, _/_, _%_, _^_, _≤_, _<_, compare, Ordering, Ordering·lt, Ordering·eq, Ordering·gt}
+use native.Mathlib.Nat.{le-antisymm, le-refl, le-trans, le-of-eq, le-of-suc-le-suc, le-of-lt, lt-of-lt-of-le, lt-of-le-of-lt, lt-of-not-le, lt-irrefl, eq-zero-or-pos, mod-lt, add-assoc, add-comm, mul-pos, mul-comm, mul-assoc, mul-left-comm, mul-le-mul-right, mul-lt-mul-of-pos-right, lt-of-mul-lt-mul-right, le-of-mul-le-mul-right, add-mul, suc-mul, le-div-iff-mul-le, div-lt-iff-lt-mul, div-add-mod'}
 use native.Mathlib.Omega.{arith}
 use mathlib.Core.Bool.{Bool, true, false, not}
 use lib.Dec.{T, ltb, isLe, isEq, eqb, leb→le, nleb→lt, eqb→eq, eqb-refl, ltb→lt, nltb→le}
 use lib.Arith.{lt-of-le-ne}
 use lib.Pow.{pow-add, pow-pos, pow-mono, pow-lt}
-use lib.Ieee.{Float, Format, prec, low, size, nearest, units, round}
+use lib.Ieee.{Format, prec, low, size, nearest, units, round}
 use lib.Ieee.Digits.{size-lt, size-le, size-reaches}
 use lib.Ieee.Fits.{round-is, two, two-le-pos}
 use lib.Ieee.Nearest.{closest, closest-same}
@@ -37,19 +37,13 @@ nearest-lt q a b h = go (compare a b) (cmp a b)
     go : (o : Ordering) → Cmp o a b → nearest q o ≡ q
     go Ordering·lt c = refl
     go Ordering·eq c = clash a b h (le-of-eq (sym c))
-    go Ordering·gt c = clash b a c (le-trans (le-of-suc-le-suc (le-trans h (le-suc b))) (le-refl b))
-      where
-        le-suc : (n : ℕ) → n ≤ suc n
-        le-suc n = omega arith
+    go Ordering·gt c = clash b a c (le-trans (le-of-suc-le-suc (le-trans h (omega arith))) (le-refl b))
 
 pub nearest-gt : (q a b : ℕ) → b < a → nearest q (compare a b) ≡ suc q
 nearest-gt q a b h = go (compare a b) (cmp a b)
   where
-    weak : (m n : ℕ) → m < n → m ≤ n
-    weak m n l = omega arith
-
     go : (o : Ordering) → Cmp o a b → nearest q o ≡ suc q
-    go Ordering·lt c = clash a b c (weak b a h)
+    go Ordering·lt c = clash a b c (omega arith)
     go Ordering·eq c = clash b a h (le-of-eq c)
     go Ordering·gt c = refl
 
@@ -68,27 +62,15 @@ div-is a b p B lo hi =
 
 pub closest-down : (a b p : ℕ) → 0 < b → p * b ≤ a → a * 2 < p * b * 2 + b → closest a b ≡ p
 closest-down a b p B lo hi =
-    let q : a / b ≡ p = div-is a b p B lo (under a (p * b) b hi) in
+    let q : a / b ≡ p = div-is a b p B lo (omega arith) in
     let r : p * b + a % b ≡ a = ap (λ (x : ℕ). x * b + a % b) (sym q) ∙ div-add-mod' a b in
-    ap (λ (x : ℕ). nearest x (compare (a % b * 2) b)) q ∙ nearest-lt p (a % b * 2) b (rest a (p * b) b (a % b) r hi)
-  where
-    under : (a x b : ℕ) → a * 2 < x * 2 + b → a < x + b
-    under a x b h = omega arith
-
-    rest : (a x b r : ℕ) → x + r ≡ a → a * 2 < x * 2 + b → r * 2 < b
-    rest a x b r e h = omega arith
+    ap (λ (x : ℕ). nearest x (compare (a % b * 2) b)) q ∙ nearest-lt p (a % b * 2) b (omega arith)
 
 pub closest-up : (a b p : ℕ) → 0 < b → p * b * 2 + b < a * 2 → a < p * b + b → closest a b ≡ suc p
 closest-up a b p B lo hi =
-    let q : a / b ≡ p = div-is a b p B (over a (p * b) b lo) hi in
+    let q : a / b ≡ p = div-is a b p B (omega arith) hi in
     let r : p * b + a % b ≡ a = ap (λ (x : ℕ). x * b + a % b) (sym q) ∙ div-add-mod' a b in
-    ap (λ (x : ℕ). nearest x (compare (a % b * 2) b)) q ∙ nearest-gt p (a % b * 2) b (rest a (p * b) b (a % b) r lo)
-  where
-    over : (a x b : ℕ) → x * 2 + b < a * 2 → x ≤ a
-    over a x b h = omega arith
-
-    rest : (a x b r : ℕ) → x + r ≡ a → x * 2 + b < a * 2 → b < r * 2
-    rest a x b r e h = omega arith
+    ap (λ (x : ℕ). nearest x (compare (a % b * 2) b)) q ∙ nearest-gt p (a % b * 2) b (omega arith)
 
 -- ---- The sticky lemma. n / c lies strictly between the even numbers 2 * h and 2 * h + 2, as 2 * h + 1 does. To a multiple of 4 * t both round alike.
 pub side : (g t : ℕ) → (g < t) ⊎ (t ≤ g)
@@ -113,36 +95,12 @@ sticky-at n c h t p g C T0 hh g-lt lo hi =
     let hi2 : n < 2 * (h * c) + 2 * c = subst (λ (x : ℕ). n < x + 2 * c) (mul-assoc 2 h c) hi in
     elim (side g t) [
       | inl l ↦
-          closest-down n b p B (low1 (p * b) (p * u) n (h * c) (g * c) pb hc lo2) (low2 (p * b) (p * u) u n (h * c) (g * c) c b pb bb hc hi2 (le-trans (le-of-eq (sym (suc-mul g c))) (mul-le-mul-right c l)))
-          ∙ sym (closest-down (2 * h + 1) (4 * t) p B' (w1 h (p * (4 * t)) (p * t) g pt hh) (w2 h (p * (4 * t)) (p * t) t g pt hh l))
+          closest-down n b p B (omega arith) (omega (arith, (le-trans (le-of-eq (sym (suc-mul g c))) (mul-le-mul-right c l))))
+          ∙ sym (closest-down (2 * h + 1) (4 * t) p B' (omega arith) (omega arith))
       | inr l ↦
-          closest-up n b p B (up1 (p * b) (p * u) u n (h * c) (g * c) b pb bb hc lo2 (mul-le-mul-right c l)) (up2 (p * b) (p * u) u n (h * c) (g * c) c b pb bb hc hi2 (le-trans (le-of-eq (sym (suc-mul g c))) (le-trans (mul-le-mul-right c g-lt) (le-of-eq (mul-assoc 2 t c)))))
-          ∙ sym (closest-up (2 * h + 1) (4 * t) p B' (v1 h (p * (4 * t)) (p * t) t g pt hh l) (v2 h (p * (4 * t)) (p * t) t g pt hh g-lt))
+          closest-up n b p B (omega (arith, mul-le-mul-right c l)) (omega (arith, (le-trans (le-of-eq (sym (suc-mul g c))) (le-trans (mul-le-mul-right c g-lt) (le-of-eq (mul-assoc 2 t c))))))
+          ∙ sym (closest-up (2 * h + 1) (4 * t) p B' (omega arith) (omega (arith, g-lt)))
     ]
-  where
-    low1 : (pb a n hc gc : ℕ) → pb ≡ 4 * a → hc ≡ 2 * a + gc → 2 * hc < n → pb ≤ n
-    low1 pb a n hc gc e f l = omega arith
-
-    low2 : (pb a u n hc gc c b : ℕ) → pb ≡ 4 * a → b ≡ 4 * u → hc ≡ 2 * a + gc → n < 2 * hc + 2 * c → gc + c ≤ u → n * 2 < pb * 2 + b
-    low2 pb a u n hc gc c b e f k l m = omega arith
-
-    w1 : (h pb a g : ℕ) → pb ≡ 4 * a → 2 * a + g ≡ h → pb ≤ 2 * h + 1
-    w1 h pb a g e f = omega arith
-
-    w2 : (h pb a t g : ℕ) → pb ≡ 4 * a → 2 * a + g ≡ h → g < t → (2 * h + 1) * 2 < pb * 2 + 4 * t
-    w2 h pb a t g e f l = omega arith
-
-    up1 : (pb a u n hc gc b : ℕ) → pb ≡ 4 * a → b ≡ 4 * u → hc ≡ 2 * a + gc → 2 * hc < n → u ≤ gc → pb * 2 + b < n * 2
-    up1 pb a u n hc gc b e f k l m = omega arith
-
-    up2 : (pb a u n hc gc c b : ℕ) → pb ≡ 4 * a → b ≡ 4 * u → hc ≡ 2 * a + gc → n < 2 * hc + 2 * c → gc + c ≤ 2 * u → n < pb + b
-    up2 pb a u n hc gc c b e f k l m = omega arith
-
-    v1 : (h pb a t g : ℕ) → pb ≡ 4 * a → 2 * a + g ≡ h → t ≤ g → pb * 2 + 4 * t < (2 * h + 1) * 2
-    v1 h pb a t g e f l = omega arith
-
-    v2 : (h pb a t g : ℕ) → pb ≡ 4 * a → 2 * a + g ≡ h → g < 2 * t → 2 * h + 1 < pb + 4 * t
-    v2 h pb a t g e f l = omega arith
 
 pub sticky-closest : (n c h t : ℕ) → 0 < c → 0 < t → 2 * h * c < n → n < 2 * h * c + 2 * c → closest n (c * (4 * t)) ≡ closest (2 * h + 1) (4 * t)
 sticky-closest n c h t C T0 lo hi =
@@ -158,42 +116,24 @@ Dropped p n c k = (n < 2 ^ (p + k) * c) × ((k ≡ 0) ⊎ (2 ^ (p - 1 + k) * c �
 
 pub drop-bounds : (p n c : ℕ) → 0 < p → 0 < c → Dropped p n c (drop p n c)
 drop-bounds p n c P C = let k = size (n / c) - p in (
-  div-lt-iff-lt-mul {k = c} {x = n} {y = 2 ^ (p + k)} C .0 (lt-of-lt-of-le (size-lt (n / c)) (pow-mono (cover (size (n / c)) p))),
-  elim (eq-zero-or-pos k) [ inl z ↦ inl z | inr g ↦ inr (le-div-iff-mul-le {k = c} {x = 2 ^ (p - 1 + k)} {y = n} C .0 (size-reaches (n / c) (p - 1 + k) (all-in-use (size (n / c)) p P g))) ],
+  div-lt-iff-lt-mul {k = c} {x = n} {y = 2 ^ (p + k)} C .0 (lt-of-lt-of-le (size-lt (n / c)) (pow-mono (omega arith))),
+  elim (eq-zero-or-pos k) [ inl z ↦ inl z | inr g ↦ inr (le-div-iff-mul-le {k = c} {x = 2 ^ (p - 1 + k)} {y = n} C .0 (size-reaches (n / c) (p - 1 + k) (omega arith))) ],
 )
-  where
-    cover : (z p : ℕ) → z ≤ p + (z - p)
-    cover z p = omega arith
-
-    all-in-use : (z p : ℕ) → 0 < p → 0 < z - p → p - 1 + (z - p) < z
-    all-in-use z p P h = omega arith
 
 pub drop-is : (p n c k : ℕ) → 0 < p → 0 < c → Dropped p n c k → drop p n c ≡ k
 drop-is p n c k P C d =
     let up : size (n / c) ≤ p + k = size-le (n / c) (p + k) (div-lt-iff-lt-mul {k = c} {x = n} {y = 2 ^ (p + k)} C .1 (d .0)) in
     elim (d .1) [
-      | inl z ↦ none (size (n / c)) p k up z
-      | inr g ↦ some (size (n / c)) p k P up (pow-lt-back (p - 1 + k) (size (n / c)) (lt-of-le-of-lt (le-div-iff-mul-le {k = c} {x = 2 ^ (p - 1 + k)} {y = n} C .1 g) (size-lt (n / c))))
+      | inl z ↦ omega arith
+      | inr g ↦ omega (arith, (pow-lt-back (p - 1 + k) (size (n / c)) (lt-of-le-of-lt (le-div-iff-mul-le {k = c} {x = 2 ^ (p - 1 + k)} {y = n} C .1 g) (size-lt (n / c)))))
     ]
-  where
-    none : (z p k : ℕ) → z ≤ p + k → k ≡ 0 → z - p ≡ k
-    none z p k h e = omega arith
-
-    some : (z p k : ℕ) → 0 < p → z ≤ p + k → p - 1 + k < z → z - p ≡ k
-    some z p k P h l = omega arith
 
 -- the bounds of (2 * h + 1) * q at even multiples of q are those of every n between 2 * h * q and (2 * h + 2) * q
 below-even : (n h q m : ℕ) → n < 2 * h * q + 2 * q → (2 * h + 1) * q < 2 * m * q → n < 2 * m * q
-below-even n h q m hi l = lt-of-lt-of-le hi (le-trans (le-of-eq (sym (add-mul (2 * h) 2 q))) (mul-le-mul-right q (step h m (lt-of-mul-lt-mul-right q l))))
-  where
-    step : (h m : ℕ) → 2 * h + 1 < 2 * m → 2 * h + 2 ≤ 2 * m
-    step h m k = omega arith
+below-even n h q m hi l = lt-of-lt-of-le hi (le-trans (le-of-eq (sym (add-mul (2 * h) 2 q))) (mul-le-mul-right q (omega (arith, lt-of-mul-lt-mul-right q l))))
 
 above-even : (n h q m : ℕ) → 0 < q → 2 * h * q < n → 2 * m * q ≤ (2 * h + 1) * q → 2 * m * q ≤ n
-above-even n h q m Q lo l = le-of-lt (lt-of-le-of-lt (mul-le-mul-right q (step h m (le-of-mul-le-mul-right l Q))) lo)
-  where
-    step : (h m : ℕ) → 2 * m ≤ 2 * h + 1 → 2 * m ≤ 2 * h
-    step h m k = omega arith
+above-even n h q m Q lo l = le-of-lt (lt-of-le-of-lt (mul-le-mul-right q (omega (arith, le-of-mul-le-mul-right l Q))) lo)
 
 four : (t : ℕ) → 4 * t ≡ 2 * (2 * t)
 four t = omega arith
@@ -258,10 +198,7 @@ module _ (f : Format) (s : Bool) (n d h e j : ℕ) (lo : 2 * h * 2 ^ d < n) (hi 
   sticky-low g =
       let m = (2 * h + 1) * 2 ^ (d + e) * 2 ^ low f in
       let k = drop (prec f) m (2 ^ j) in
-      sticky-with k (k + j - (d + e + low f + 2)) (fill (d + e + low f) k j g) (drop-bounds (prec f) m (2 ^ j) (two-le-pos (prec f) (two f)) (pow-pos j))
-    where
-      fill : (a k j : ℕ) → a + 2 ≤ j → k + j ≡ a + (2 + (k + j - (a + 2)))
-      fill a k j l = omega arith
+      sticky-with k (k + j - (d + e + low f + 2)) (omega arith) (drop-bounds (prec f) m (2 ^ j) (two-le-pos (prec f) (two f)) (pow-pos j))
 
   -- the sticky digit stands two places or more below the kept digits
   pub sticky-high : 2 ^ (prec f + 1) ≤ h → round f s (n * 2 ^ e) (2 ^ j) ≡ round f s ((2 * h + 1) * 2 ^ (d + e)) (2 ^ j)
@@ -272,13 +209,7 @@ module _ (f : Format) (s : Bool) (n d h e j : ℕ) (lo : 2 * h * 2 ^ d < n) (hi 
       let big : 2 ^ (prec f + 1 + (d + e + low f)) < 2 ^ (prec f + k + j) =
       lt-of-le-of-lt
       (le-trans (le-of-eq (pow-add 2 (prec f + 1) (d + e + low f)))
-      (le-trans (mul-le-mul-right (2 ^ (d + e + low f)) (grow (2 ^ (prec f + 1)) h g))
+      (le-trans (mul-le-mul-right (2 ^ (d + e + low f)) (omega arith))
       (le-of-eq (ap (λ (z : ℕ). (2 * h + 1) * z) (pow-add 2 (d + e) (low f)) ∙ sym (mul-assoc (2 * h + 1) (2 ^ (d + e)) (2 ^ low f))))))
       (lt-of-lt-of-le (dr .0) (le-of-eq (sym (pow-add 2 (prec f + k) j)))) in
-      sticky-with k (k + j - (d + e + low f + 2)) (fill (prec f) (d + e + low f) k j (pow-lt-back (prec f + 1 + (d + e + low f)) (prec f + k + j) big)) dr
-    where
-      grow : (x h : ℕ) → x ≤ h → x ≤ 2 * h + 1
-      grow x h l = omega arith
-
-      fill : (p a k j : ℕ) → p + 1 + a < p + k + j → k + j ≡ a + (2 + (k + j - (a + 2)))
-      fill p a k j l = omega arith
+      sticky-with k (k + j - (d + e + low f + 2)) (omega (arith, (pow-lt-back (prec f + 1 + (d + e + low f)) (prec f + k + j) big))) dr

@@ -1,7 +1,7 @@
 -- Shifts, masks and float tests as the machine has them.
 use mathlib.Core.Path.{_≡_, refl, sym, ap, _∙_, subst}
-use Prim.Native.Nat.{ℕ, zero, suc, _+_, _-_, _*_, _/_, _%_, _^_, _≤_, _<_}
-use native.Mathlib.Nat.{one-mul, lt-of-lt-of-le, div-lt-iff-lt-mul}
+use Prim.Native.Nat.{ℕ, _+_, _-_, _*_, _/_, _%_, _^_, _≤_, _<_}
+use native.Mathlib.Nat.{one-mul, div-lt-iff-lt-mul}
 use native.Mathlib.Omega.{arith}
 use mathlib.Core.Bool.{Bool, true, false, not}
 use lib.Dec.{T, eqb, eqb-refl, lit<}
@@ -13,10 +13,7 @@ use lib.Ieee.Bits.{is-true}
 
 -- 1 << d
 pub unit-is : (d : ℕ) → d < 64 → 1 * 2 ^ d % 18446744073709551616 ≡ 2 ^ d
-unit-is d h = shl-exact {a = 1} 1 d 64 (lit< tt) (fit d h) ∙ one-mul (2 ^ d)
-  where
-    fit : (d : ℕ) → d < 64 → 1 + d ≤ 64
-    fit d h = omega arith
+unit-is d h = shl-exact {a = 1} 1 d 64 (lit< tt) (omega arith) ∙ one-mul (2 ^ d)
 
 -- m & ((1 << d) - 1)
 pub mask-is : (m d : ℕ) → d < 64 → bitAnd m (1 * 2 ^ d % 18446744073709551616 - 1) ≡ m % 2 ^ d

@@ -1,6 +1,6 @@
 -- What the private functions answer. Nothing here has to be believed: no public contract cites it.
 use Prim.Native.Nat.{ℕ, zero, suc, _+_, _-_, _*_, _/_, _%_, _^_}
-use mathlib.Core.Bool.{Bool, true, false, _&&_, Bool·beq, cond}
+use mathlib.Core.Bool.{Bool, _&&_, Bool·beq, cond}
 use lib.Dec.{leb, ltb, eqb}
 use lib.Ieee.{Float, binary32, unlike, sum, ofBits, toBits, isNan}
 use Rattle.float.specs.declared.Rounded.{Rounded}

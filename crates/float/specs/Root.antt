@@ -1,6 +1,6 @@
 -- The square root, rounded once.
 use Prim.Native.Nat.{ℕ, zero, suc, _+_, _*_, _/_, _^_}
-use mathlib.Core.Bool.{Bool, true, false, cond}
+use mathlib.Core.Bool.{true, false, cond}
 use lib.Dec.{leb, eqb}
 use lib.Ieee.{Float, nan, inf, fin, binary32, up, down, size, round}
 use Rattle.float.specs.declared.Rounded.{Rounded}

@@ -1,17 +1,14 @@
-use mathlib.Core.Path.{_≡_, refl, sym, ap, ap₂, _∙_, subst}
-use mathlib.Core.Logic.{_⊎_, inl, inr}
-use Prim.Native.Nat.{ℕ, zero, suc, _+_, _-_, _*_, _/_, _%_, _^_, _≤_, _<_, zero-le}
-use native.Mathlib.Omega.{arith}
-use mathlib.Core.Bool.{Bool, true, false, cond}
-use lib.Dec.{T, lit≤, lit<}
-use mir.Syntax.{w32, w64}
-use mir.Val.{SFits, Fits, toZ}
+use mathlib.Core.Path.{_≡_, sym, ap, ap₂, _∙_, subst}
+use mathlib.Core.Logic.{inl, inr}
+use Prim.Native.Nat.{ℕ, zero, _+_, _-_, _*_, _^_, _<_}
+use mathlib.Core.Bool.{false}
+use lib.Dec.{T}
 use borrow.Author.Needs.{needs}
 use Rattle.float.proofs.sqrt.Statement.{statement}
 use Rattle.float.proofs.sqrt.Tie as tie
 use native.Mathlib.Nat.{eq-zero-or-pos}
 use lib.Ieee.{Float, binary32, round, fits}
-use Rattle.float.specs.Inside.{fieldOf, signOf, bitsOf, M, Q}
+use Rattle.float.specs.Inside.{fieldOf, bitsOf, M}
 use Rattle.float.specs.Finite.{rounded}
 use Rattle.float.specs.Root.{twiceRoot}
 use Rattle.float.proofs.Words.{T-of}

@@ -1,4 +1,4 @@
-use mathlib.Core.Path.{refl, sym, _∙_}
+use mathlib.Core.Path.{sym, _∙_}
 use Rattle.float.proofs.Words.{differs, T-not-of}
 use Rattle.float.proofs.bits.bits_of.Statement.{statement}
 use Rattle.float.proofs.bits.bits_of.Tie as tie

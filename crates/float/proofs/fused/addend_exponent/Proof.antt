@@ -1,15 +1,11 @@
-use mathlib.Core.Path.{_≡_, refl, sym, ap, ap₂, _∙_, subst}
-use Prim.Native.Nat.{ℕ, zero, suc, _+_, _-_, _*_, _/_, _%_, _^_, _≤_, _<_}
+use mathlib.Core.Path.{_≡_, sym, ap, _∙_, subst}
+use Prim.Native.Nat.{ℕ, _+_, _-_, _<_}
 use native.Mathlib.Omega.{arith}
-use mathlib.Core.Bool.{Bool, true, false, cond}
-use lib.Dec.{T, eqb}
-use lib.IntN.{ℤ, pos, negsuc, natAbs, subℕ, _-ℤ_, _+ℤ_}
-use lib.Signed.{mag, ltZ, nonNeg}
+use lib.IntN.{ℤ, pos, subℕ, _-ℤ_}
+use lib.Signed.{mag}
 use mir.Syntax.{w32}
-use mir.Val.{SFits, Fits, toZ}
-use borrow.Author.Needs.{needs}
-use borrow.Author.Tests.{eq-eqb, ne-eqb}
-use Rattle.float.proofs.Places.{held, back', wider, small, fits-less, held-less, sub-sub, sub-same}
+use mir.Val.{SFits}
+use Rattle.float.proofs.Places.{held, back', wider, fits-less, held-less, sub-sub, sub-same}
 use Rattle.float.proofs.fused.addend_exponent.Statement.{statement}
 use Rattle.float.proofs.fused.addend_exponent.Tie as tie
 
@@ -24,10 +20,7 @@ module _ (a : ℤ) (h : mag a < 1000) where
   ok = subst (λ (z : ℤ). SFits w32 z) (sym arg) (fits-less a (pos 38) (wider (mag a) 1000 h tt) small38)
 
   value : (x : ℕ) → a ≡ subℕ x 150 → held (held a -ℤ pos 38) ≡ subℕ (x + 126) 314
-  value x p = ap held arg ∙ held-less a (pos 38) (wider (mag a) 1000 h tt) small38 ∙ ap (λ (z : ℤ). z -ℤ pos 38) p ∙ sub-sub x 150 38 0 ∙ sub-same (x + 0) (150 + 38) (x + 126) 314 (level x)
-    where
-      level : (x : ℕ) → x + 0 + 314 ≡ x + 126 + (150 + 38)
-      level x = omega arith
+  value x p = ap held arg ∙ held-less a (pos 38) (wider (mag a) 1000 h tt) small38 ∙ ap (λ (z : ℤ). z -ℤ pos 38) p ∙ sub-sub x 150 38 0 ∙ sub-same (x + 0) (150 + 38) (x + 126) 314 (omega arith)
 
 sub-result : tie.Need-sub-result
 sub-result c = ok (c .args .a) (c .pre)

@@ -1,4 +1,4 @@
-use mathlib.Core.Path.{_≡_, refl, sym, ap, ap₂, _∙_, subst}
+use mathlib.Core.Path.{_≡_, sym, ap, ap₂, _∙_, subst}
 use mathlib.Core.Logic.{_⊎_}
 use Prim.Native.Nat.{ℕ, _+_, _*_, _^_, _≤_, _<_}
 use native.Mathlib.Nat.{lt-of-lt-of-le}
@@ -36,10 +36,7 @@ placed-small : (e : ℤ) (i : ℕ) → i < 512 → e ≡ subℕ i 314 → mag (h
 placed-small e i h p = at-place-small e i 314 (less 512 h tt) (lit< tt) p
 
 addend-small : (z : ℕ) → Q z + 126 < 512
-addend-small z = loose (Q z) (place-lt z)
-  where
-    loose : (q : ℕ) → q < 256 → q + 126 < 512
-    loose q h = omega arith
+addend-small z = omega (arith, place-lt z)
 
 product-place : (r : ℤ) (m n : ℕ) (a b : ℤ) (x y : ℕ) → m ≡ M x → n ≡ M y → a ≡ subℕ (Q x) 150 → b ≡ subℕ (Q y) 150
     → ((i j : ℕ) → held a ≡ subℕ i 150 → held b ≡ subℕ j 150 → r ≡ subℕ (cond (eqb (m * n) 0) 2 (i + j)) 314) → r ≡ subℕ (E x y) 314

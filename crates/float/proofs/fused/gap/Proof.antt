@@ -20,16 +20,10 @@ module _ (a b : ℤ) (h : mag a < 1000) (g : mag b < 1000) where
   value = ap held args ∙ held-less a b (wider (mag a) 1000 h tt) (wider (mag b) 1000 g tt)
 
   small : mag (held (held a -ℤ held b)) < 3000
-  small = subst (λ (z : ℤ). mag z < 3000) (sym value) (loose (mag (a -ℤ b)) (mag-less a b 1000 1000 h g))
-    where
-      loose : (n : ℕ) → n < 1000 + 1000 + 1 → n < 3000
-      loose n l = omega arith
+  small = subst (λ (z : ℤ). mag z < 3000) (sym value) (omega (arith, mag-less a b 1000 1000 h g))
 
   place : (x y : ℕ) → a ≡ subℕ x 314 → b ≡ subℕ y 314 → held (held a -ℤ held b) ≡ subℕ x y
-  place x y p q = value ∙ ap₂ (λ (u v : ℤ). u -ℤ v) p q ∙ sub-sub x 314 y 314 ∙ sub-same (x + 314) (314 + y) x y (level x y)
-    where
-      level : (x y : ℕ) → x + 314 + y ≡ x + (314 + y)
-      level x y = omega arith
+  place x y p q = value ∙ ap₂ (λ (u v : ℤ). u -ℤ v) p q ∙ sub-sub x 314 y 314 ∙ sub-same (x + 314) (314 + y) x y (omega arith)
 
 sub-above : tie.Need-sub-above
 sub-above c = ok (c .args .a) (c .args .b) (c .pre .0) (c .pre .1)

@@ -1,15 +1,14 @@
-use mathlib.Core.Path.{_≡_, refl, sym, ap, ap₂, _∙_, subst}
-use Prim.Native.Nat.{ℕ, zero, suc, _+_, _-_, _*_, _/_, _%_, _^_, _≤_, _<_}
+use mathlib.Core.Path.{_≡_, sym, ap, ap₂, _∙_, subst}
+use Prim.Native.Nat.{ℕ, _+_, _-_, _<_}
 use native.Mathlib.Omega.{arith}
-use mathlib.Core.Bool.{Bool, true, false, cond}
-use lib.Dec.{T, eqb}
-use lib.IntN.{ℤ, pos, negsuc, natAbs, subℕ, _-ℤ_, _+ℤ_}
-use lib.Signed.{mag, ltZ, nonNeg}
+use mathlib.Core.Bool.{Bool, cond}
+use lib.Dec.{eqb}
+use lib.IntN.{ℤ, pos, negsuc, subℕ, _-ℤ_, _+ℤ_}
+use lib.Signed.{mag}
 use mir.Syntax.{w32}
-use mir.Val.{SFits, Fits, toZ}
-use borrow.Author.Needs.{needs}
+use mir.Val.{SFits}
 use borrow.Author.Tests.{eq-eqb, ne-eqb}
-use Rattle.float.proofs.Places.{held, back', wider, small, fits-less, held-less, fits-plus, held-plus, mag-plus, sub-add, sub-sub, sub-same}
+use Rattle.float.proofs.Places.{held, back', wider, fits-less, held-less, fits-plus, held-plus, mag-plus, sub-add, sub-sub, sub-same}
 use Rattle.float.proofs.fused.product_exponent.Statement.{statement}
 use Rattle.float.proofs.fused.product_exponent.Tie as tie
 
@@ -39,11 +38,8 @@ module _ (a b : ℤ) (h : mag a < 1000) (g : mag b < 1000) where
   value p x y n u v =
       ap (λ (z : ℤ). held (z -ℤ pos 14)) sum ∙ held-less (a +ℤ b) (pos 14) sum-small small14
       ∙ ap (λ (z : ℤ). z -ℤ pos 14) (ap₂ (λ (x y : ℤ). x +ℤ y) u v ∙ sub-add x 150 y 150)
-      ∙ sub-sub (x + y) (150 + 150) 14 0 ∙ sub-same (x + y + 0) (150 + 150 + 14) (x + y) 314 (level (x + y))
+      ∙ sub-sub (x + y) (150 + 150) 14 0 ∙ sub-same (x + y + 0) (150 + 150 + 14) (x + y) 314 (omega arith)
       ∙ sym (ap (λ (b : Bool). subℕ (cond b 2 (x + y)) 314) (ne-eqb p 0 n))
-    where
-      level : (x : ℕ) → x + 0 + 314 ≡ x + (150 + 150 + 14)
-      level x = omega arith
 
 returns : tie.Need-returns
 returns c = λ x y u v. none (c .before .args .p) x y (c .if1 .taken)

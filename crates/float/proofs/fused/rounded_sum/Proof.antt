@@ -1,16 +1,15 @@
-use mathlib.Core.Path.{_≡_, sym, ap₂, _∙_, subst}
-use Prim.Native.Nat.{ℕ, _+_, _-_, _*_, _^_, _≤_, _<_}
+use mathlib.Core.Path.{ap₂, _∙_}
+use Prim.Native.Nat.{ℕ, _+_, _-_, _*_, _^_, _≤_}
 use native.Mathlib.Nat.{lt-of-le-of-lt, le-trans, le-of-eq}
 use native.Mathlib.Omega.{arith}
 use mathlib.Core.Bool.{Bool, true, false, cond, Bool·beq}
 use lib.Dec.{ltb}
-use lib.IntN.{ℤ}
 use lib.Signed.{mag}
 use lib.Ieee.{binary32, round}
 use borrow.Author.Needs.{needs}
 use Rattle.float.specs.Inside.{magOf}
 use Rattle.float.specs.Finite.{rounded}
-use Rattle.float.proofs.Places.{held, back', wider, place-held, place-small}
+use Rattle.float.proofs.Places.{place-held, place-small}
 use Rattle.float.proofs.fused.rounded_sum.Statement.{statement}
 use Rattle.float.proofs.fused.rounded_sum.Tie as tie
 

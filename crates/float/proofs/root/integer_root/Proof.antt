@@ -1,19 +1,14 @@
-use mathlib.Core.Path.{_≡_, refl, sym, ap, ap₂, _∙_, subst}
-use mathlib.Core.Logic.{_⊎_, inl, inr}
-use Prim.Native.Nat.{ℕ, zero, suc, _+_, _-_, _*_, _/_, _%_, _^_, _≤_, _<_, zero-le}
+use mathlib.Core.Path.{_≡_, sym, ap, _∙_, subst}
+use Prim.Native.Nat.{ℕ, zero, suc, _+_, _-_, _*_, _%_, _^_, _≤_, _<_, zero-le}
 use native.Mathlib.Omega.{arith}
-use mathlib.Core.Bool.{Bool, true, false, cond}
-use lib.Dec.{T, lit≤, lit<}
-use mir.Syntax.{w32, w64}
-use mir.Val.{SFits, Fits, toZ}
-use borrow.Author.Needs.{needs}
+use lib.Dec.{lit≤}
 use Rattle.float.proofs.root.integer_root.Statement.{statement}
 use Rattle.float.proofs.root.integer_root.Tie as tie
 use native.Mathlib.Nat.{le-trans, le-of-eq, le-of-lt, lt-of-lt-of-le, lt-of-le-of-lt, add-assoc, mul-le-mul, mul-lt-mul-of-pos-right, mul-le-mul-left, two-pow-succ}
-use lib.Pow.{pow-add, pow-pos, pow-mono}
+use lib.Pow.{pow-pos}
 use Rattle.float.specs.Root.{integerRoot}
 use Rattle.float.proofs.Words.{unit-is}
-use Rattle.float.proofs.Roots.{Root, root-is}
+use Rattle.float.proofs.Roots.{root-is}
 
 -- r is the root's digits from place i on
 abbrev Found : ℕ → ℕ → ℕ → Type 0

@@ -1,16 +1,11 @@
-use mathlib.Core.Path.{_≡_, refl, sym, ap, ap₂, _∙_, subst}
-use mathlib.Core.Logic.{_⊎_, inl, inr}
-use Prim.Native.Nat.{ℕ, zero, suc, _+_, _-_, _*_, _/_, _%_, _^_, _≤_, _<_, zero-le}
+use mathlib.Core.Path.{_≡_, sym, ap, _∙_}
+use Prim.Native.Nat.{ℕ, suc, _+_, _-_, _*_, _%_, _^_, _≤_, _<_}
 use native.Mathlib.Omega.{arith}
-use mathlib.Core.Bool.{Bool, true, false, cond}
-use lib.Dec.{T, lit≤, lit<}
-use mir.Syntax.{w32, w64}
-use mir.Val.{SFits, Fits, toZ}
-use borrow.Author.Needs.{needs}
+use lib.Dec.{lit≤}
 use Rattle.float.proofs.Sticky.{pow-lt-back}
 use Rattle.float.proofs.root.lift.Statement.{statement}
 use Rattle.float.proofs.root.lift.Tie as tie
-use native.Mathlib.Nat.{le-trans, le-of-eq, lt-of-lt-of-le, lt-of-le-of-lt, lt-of-not-le, lt-irrefl, mul-le-mul-left, mul-le-mul-right, mul-lt-mul-of-pos-right, mul-assoc}
+use native.Mathlib.Nat.{le-trans, le-of-eq, lt-of-lt-of-le, lt-of-le-of-lt, mul-le-mul-left, mul-le-mul-right, mul-lt-mul-of-pos-right, mul-assoc}
 use lib.Pow.{pow-add, pow-pos, pow-mono}
 use lib.Count.{leadingZeros, leading-top}
 
@@ -47,30 +42,12 @@ lifted : (m z p : ℕ) → Up m z → (z - 2 + (p + (z - 2)) % 2 < 63) × (2 ^ 6
 lifted m z p h =
     let u = z - 2 in
     let d = (p + u) % 2 in (
-      y1 z p (h .1),
-      le-trans (h .2) (mul-le-mul-left m (pow-mono (more u d))),
-      lt-of-le-of-lt (mul-le-mul-left m (pow-mono (less u p))) (lt-of-le-of-lt (le-of-eq (ap (λ (x : ℕ). m * x) (pow-add 2 u 1) ∙ sym (mul-assoc m (2 ^ u) 2))) (double (m * 2 ^ u) (h .3))),
-      y4 z p (h .0) (h .1),
-      y5 z p (h .0) (h .1),
+      omega (arith, h .1),
+      le-trans (h .2) (mul-le-mul-left m (pow-mono (omega arith))),
+      lt-of-le-of-lt (mul-le-mul-left m (pow-mono (omega arith))) (lt-of-le-of-lt (le-of-eq (ap (λ (x : ℕ). m * x) (pow-add 2 u 1) ∙ sym (mul-assoc m (2 ^ u) 2))) (omega (arith, h .3))),
+      omega (arith, h .0, h .1),
+      omega (arith, h .0, h .1),
     )
-  where
-    more : (u d : ℕ) → u ≤ u + d
-    more u d = omega arith
-
-    less : (u p : ℕ) → u + (p + u) % 2 ≤ u + 1
-    less u p = omega arith
-
-    double : (x : ℕ) → x < 4611686018427387904 → x * 2 < 9223372036854775808
-    double x h = omega arith
-
-    y1 : (z p : ℕ) → z < 64 → z - 2 + (p + (z - 2)) % 2 < 63
-    y1 z p h = omega arith
-
-    y4 : (z p : ℕ) → 40 ≤ z → z < 64 → (p + 62 - (z - 2 + (p + (z - 2)) % 2)) % 2 ≡ 0
-    y4 z p g h = omega arith
-
-    y5 : (z p : ℕ) → 40 ≤ z → z < 64 → z - 2 + (p + (z - 2)) % 2 ≤ p + 62
-    y5 z p g h = omega arith
 
 two-up : (z : ℕ) → 40 ≤ z → 2 ≤ z
 two-up z h = omega arith

@@ -1,22 +1,17 @@
-use mathlib.Core.Path.{_≡_, refl, sym, ap, ap₂, _∙_, subst}
-use mathlib.Core.Logic.{_⊎_, inl, inr}
-use Prim.Native.Nat.{ℕ, zero, suc, _+_, _-_, _*_, _/_, _%_, _^_, _≤_, _<_, zero-le}
+use mathlib.Core.Path.{_≡_, sym, ap, _∙_}
+use Prim.Native.Nat.{ℕ, _+_, _-_, _*_, _/_, _%_, _^_, _≤_, _<_}
 use native.Mathlib.Omega.{arith}
-use mathlib.Core.Bool.{Bool, true, false, cond}
-use lib.Dec.{T, lit≤, lit<}
-use mir.Syntax.{w32, w64}
-use mir.Val.{SFits, Fits, toZ}
+use mathlib.Core.Bool.{false}
+use lib.Dec.{lit≤, lit<}
 use borrow.Author.Needs.{needs}
 use Rattle.float.proofs.root.positive_root.Statement.{statement}
 use Rattle.float.proofs.root.positive_root.Tie as tie
 use native.Mathlib.Nat.{le-trans, lt-of-lt-of-le, mod-eq-of-lt, mul-assoc}
-use lib.IntN.{ℤ, subℕ}
-use lib.Signed.{mag}
 use lib.Pow.{pow-add}
 use lib.Ieee.{binary32, round}
 use Rattle.float.specs.Finite.{rounded}
 use Rattle.float.specs.Root.{twiceRoot}
-use Rattle.float.proofs.Places.{held, at-place, at-place-small}
+use Rattle.float.proofs.Places.{at-place, at-place-small}
 use Rattle.float.proofs.Roots.{root-rounds}
 
 half-lt : (p u : ℕ) → p < 256 → (p + 62 - u) / 2 + 207 < 1000
@@ -24,10 +19,7 @@ half-lt p u h = omega arith
 
 -- the number that was moved up, and the one that the definition takes the root of
 scaled : (m p u : ℕ) → u ≤ p + 62 → (p + 62 - u) % 2 ≡ 0 → m * 2 ^ u * 2 ^ ((p + 62 - u) / 2 + 44 + ((p + 62 - u) / 2 + 44)) ≡ m * 2 ^ (p + 150)
-scaled m p u l e = mul-assoc m (2 ^ u) (2 ^ ((p + 62 - u) / 2 + 44 + ((p + 62 - u) / 2 + 44))) ∙ ap (λ (x : ℕ). m * x) (sym (pow-add 2 u ((p + 62 - u) / 2 + 44 + ((p + 62 - u) / 2 + 44))) ∙ ap (λ (x : ℕ). 2 ^ x) (level p u l e))
-  where
-    level : (p u : ℕ) → u ≤ p + 62 → (p + 62 - u) % 2 ≡ 0 → u + ((p + 62 - u) / 2 + 44 + ((p + 62 - u) / 2 + 44)) ≡ p + 150
-    level p u l e = omega arith
+scaled m p u l e = mul-assoc m (2 ^ u) (2 ^ ((p + 62 - u) / 2 + 44 + ((p + 62 - u) / 2 + 44))) ∙ ap (λ (x : ℕ). m * x) (sym (pow-add 2 u ((p + 62 - u) / 2 + 44 + ((p + 62 - u) / 2 + 44))) ∙ ap (λ (x : ℕ). 2 ^ x) (omega arith))
 
 rounds : (m p u : ℕ) → 2 ^ 61 ≤ m * 2 ^ u → u ≤ p + 62 → (p + 62 - u) % 2 ≡ 0
     → round binary32 false (twiceRoot (m * 2 ^ u) * 2 ^ ((p + 62 - u) / 2 + 207)) (2 ^ 314) ≡ round binary32 false (twiceRoot (m * 2 ^ (p + 150))) (2 ^ 151)
@@ -36,10 +28,7 @@ rounds m p u big l e =
     sym
     (ap (λ (x : ℕ). round binary32 false (twiceRoot x) (2 ^ 151)) (sym (scaled m p u l e))
     ∙ root-rounds (m * 2 ^ u) j (le-trans (lit≤ tt) big)
-    ∙ ap (λ (x : ℕ). round binary32 false (twiceRoot (m * 2 ^ u) * 2 ^ x) (2 ^ 314)) (level ((p + 62 - u) / 2)))
-  where
-    level : (h : ℕ) → h + 44 + 163 ≡ h + 207
-    level h = omega arith
+    ∙ ap (λ (x : ℕ). round binary32 false (twiceRoot (m * 2 ^ u) * 2 ^ x) (2 ^ 314)) (omega arith))
 
 loose : (w : ℕ) → w < 17179869184 → w < 9223372036854775808
 loose w h = omega arith

@@ -1,11 +1,8 @@
-use mathlib.Core.Path.{_≡_, refl, sym, ap, ap₂, _∙_, subst}
-use mathlib.Core.Logic.{_⊎_, inl, inr}
-use Prim.Native.Nat.{ℕ, zero, suc, _+_, _-_, _*_, _/_, _%_, _^_, _≤_, _<_, zero-le}
+use mathlib.Core.Path.{_≡_, sym, ap, _∙_, subst}
+use Prim.Native.Nat.{ℕ, _+_, _-_, _/_, _<_}
 use native.Mathlib.Omega.{arith}
-use mathlib.Core.Bool.{Bool, true, false, cond}
-use lib.Dec.{T, lit≤, lit<}
-use mir.Syntax.{w32, w64}
-use mir.Val.{SFits, Fits, toZ}
+use mir.Syntax.{w32}
+use mir.Val.{SFits, toZ}
 use borrow.Author.Needs.{needs}
 use Rattle.float.proofs.root.root_exponent.Statement.{statement}
 use Rattle.float.proofs.root.root_exponent.Tie as tie
@@ -29,10 +26,7 @@ module _ (r : ℕ) (h : r < 256) where
   value : held (toZ w32 r -ℤ pos 107) ≡ subℕ (r + 207) 314
   value =
       ap held arg ∙ held-less (pos r) (pos 107) (wider r 256 h tt) small107
-      ∙ ap (λ (z : ℤ). z -ℤ pos 107) (at-zero r) ∙ sub-sub r 0 107 0 ∙ sub-same (r + 0) (0 + 107) (r + 207) 314 (level r)
-    where
-      level : (r : ℕ) → r + 0 + 314 ≡ r + 207 + (0 + 107)
-      level r = omega arith
+      ∙ ap (λ (z : ℤ). z -ℤ pos 107) (at-zero r) ∙ sub-sub r 0 107 0 ∙ sub-same (r + 0) (0 + 107) (r + 207) 314 (omega arith)
 
 add-result : tie.Need-add-result
 add-result c = search needs

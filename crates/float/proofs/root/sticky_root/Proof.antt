@@ -1,17 +1,12 @@
-use mathlib.Core.Path.{_≡_, refl, sym, ap, ap₂, _∙_, subst}
-use mathlib.Core.Logic.{_⊎_, inl, inr}
-use Prim.Native.Nat.{ℕ, zero, suc, _+_, _-_, _*_, _/_, _%_, _^_, _≤_, _<_, zero-le}
+use mathlib.Core.Path.{_≡_, sym, subst}
+use Prim.Native.Nat.{ℕ, _+_, _-_, _*_, _^_, _<_}
 use native.Mathlib.Omega.{arith}
-use mathlib.Core.Bool.{Bool, true, false, cond}
-use lib.Dec.{T, lit≤, lit<}
-use mir.Syntax.{w32, w64}
-use mir.Val.{SFits, Fits, toZ}
 use borrow.Author.Needs.{needs}
 use Rattle.float.proofs.root.sticky_root.Statement.{statement}
 use Rattle.float.proofs.root.sticky_root.Tie as tie
-use native.Mathlib.Nat.{le-of-lt, lt-of-le-of-lt, lt-of-lt-of-le, mul-le-mul-left, mul-lt-mul-of-pos-right}
+use native.Mathlib.Nat.{le-of-lt, lt-of-le-of-lt, mul-le-mul-left, mul-lt-mul-of-pos-right}
 use lib.Pow.{pow-pos}
-use Rattle.float.specs.Root.{integerRoot, twiceRoot}
+use Rattle.float.specs.Root.{integerRoot}
 use Rattle.float.proofs.Roots.{Root, integer-root, twice-exact, twice-cut}
 
 -- a root that was found is a root

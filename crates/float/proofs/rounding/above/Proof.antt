@@ -1,13 +1,12 @@
-use mathlib.Core.Path.{_≡_, refl, sym, ap, ap₂, _∙_, subst}
-use Prim.Native.Nat.{ℕ, zero, suc, _+_, _-_, _*_, _/_, _%_, _^_, _≤_, _<_}
+use mathlib.Core.Path.{_≡_, sym, ap, _∙_, subst}
+use Prim.Native.Nat.{ℕ, _-_, _<_}
 use native.Mathlib.Omega.{arith}
-use mathlib.Core.Bool.{Bool, true, false, cond}
-use lib.Dec.{T, eqb}
-use lib.IntN.{ℤ, pos, negsuc, negℤ, natAbs, subℕ, _-ℤ_, _+ℤ_}
+use mathlib.Core.Bool.{true, false}
+use lib.Dec.{T}
+use lib.IntN.{ℤ, pos, natAbs, subℕ}
 use lib.Signed.{mag, ltZ, nonNeg}
 use mir.Syntax.{w32}
-use mir.Val.{SFits, Fits, toZ}
-use borrow.Author.Needs.{needs}
+use mir.Val.{Fits}
 use Rattle.float.proofs.Places.{held, back', wider, small, nonNeg-of, natAbs-lt, cast-out, natAbs-above, lt-of-negative}
 use Rattle.float.proofs.rounding.above.Statement.{statement}
 use Rattle.float.proofs.rounding.above.Tie as tie
@@ -17,13 +16,7 @@ module _ (d : ℤ) (h : mag d < 3000) where
   is = back' d (wider (mag d) 3000 h tt)
 
   negative : ltZ (held d) (pos 0) ≡ true → (0 < 3001) × ((x y : ℕ) → d ≡ subℕ x y → 0 ≡ x - y)
-  negative t = (some, λ x y p. none x y (lt-of-negative x y (sym (ap (λ (z : ℤ). ltZ z (pos 0)) (is ∙ p)) ∙ t)))
-    where
-      some : 0 < 3001
-      some = omega arith
-
-      none : (x y : ℕ) → x < y → 0 ≡ x - y
-      none x y l = omega arith
+  negative t = ((omega arith), λ x y p. (omega (arith, (lt-of-negative x y (sym (ap (λ (z : ℤ). ltZ z (pos 0)) (is ∙ p)) ∙ t)))))
 
   cast : ltZ (held d) (pos 0) ≡ false → T (nonNeg (held d)) × Fits w32 (natAbs (held d))
   cast t = (nonNeg-of (held d) t, subst (λ (z : ℤ). Fits w32 (natAbs z)) (sym is) (cast-out d (small (mag d) 3000 h tt)))

@@ -1,12 +1,10 @@
-use mathlib.Core.Path.{_≡_, refl, sym, ap, ap₂, _∙_, subst}
-use Prim.Native.Nat.{ℕ, zero, suc, _+_, _-_, _*_, _/_, _%_, _^_, _≤_, _<_}
+use mathlib.Core.Path.{_≡_, sym, ap, ap₂, _∙_, subst}
+use Prim.Native.Nat.{ℕ, _+_, _-_, _<_}
 use native.Mathlib.Omega.{arith}
-use mathlib.Core.Bool.{Bool, true, false, cond}
-use lib.Dec.{T, eqb}
-use lib.IntN.{ℤ, pos, negsuc, negℤ, natAbs, subℕ, _-ℤ_, _+ℤ_}
-use lib.Signed.{mag, ltZ, nonNeg}
+use lib.IntN.{ℤ, pos, subℕ, _-ℤ_, _+ℤ_}
+use lib.Signed.{mag}
 use mir.Syntax.{w32}
-use mir.Val.{SFits, Fits, toZ}
+use mir.Val.{SFits, toZ}
 use borrow.Author.Needs.{needs}
 use Rattle.float.proofs.Places.{held, back', cast-in, wider, small, fits-less, held-less, fits-plus, held-plus, mag-less, mag-plus, sub-add, sub-sub, sub-same, at-zero}
 use Rattle.float.proofs.rounding.dropped.Statement.{statement}
@@ -39,19 +37,13 @@ module _ (e : ℤ) (u : ℕ) (h : mag e < 1000) (g : u < 64) where
 
   value : (mag (held (held (held e -ℤ toZ w32 u) +ℤ pos 188)) < 2000) × ((x : ℕ) → e ≡ subℕ x 314 → held (held (held e -ℤ toZ w32 u) +ℤ pos 188) ≡ subℕ x (126 + u))
   value = (
-    subst (λ (z : ℤ). mag z < 2000) (sym plus) (loose (mag (e -ℤ pos u +ℤ pos 188)) (mag-plus (e -ℤ pos u) (pos 188) 1065 189 less-small at-most)),
+    subst (λ (z : ℤ). mag z < 2000) (sym plus) (omega (arith, (mag-plus (e -ℤ pos u) (pos 188) 1065 189 less-small at-most))),
     λ x p.
         plus
         ∙ ap (λ (z : ℤ). z +ℤ pos 188) (ap₂ (λ (y z : ℤ). y -ℤ z) p (at-zero u) ∙ sub-sub x 314 u 0)
         ∙ sub-add (x + 0) (314 + u) 188 0
-        ∙ sub-same (x + 0 + 188) (314 + u + 0) x (126 + u) (level x u),
+        ∙ sub-same (x + 0 + 188) (314 + u + 0) x (126 + u) (omega arith),
   )
-    where
-      loose : (n : ℕ) → n < 1065 + 189 + 1 → n < 2000
-      loose n l = omega arith
-
-      level : (x u : ℕ) → x + 0 + 188 + (126 + u) ≡ x + (314 + u + 0)
-      level x u = omega arith
 
 cast-result : tie.Need-cast-result
 cast-result c = search needs

@@ -1,19 +1,15 @@
-use mathlib.Core.Path.{_≡_, refl, sym, ap, ap₂, _∙_, subst}
+use mathlib.Core.Path.{_≡_, sym, ap₂, _∙_, subst}
 use Prim.Native.Nat.{ℕ, zero, suc, _+_, _-_, _*_, _/_, _%_, _^_, _≤_, _<_, compare}
-use native.Mathlib.Nat.{le-trans, le-of-eq, lt-of-lt-of-le, lt-of-le-of-lt, mod-eq-of-lt, eq-zero-or-pos}
+use native.Mathlib.Nat.{le-trans, lt-of-lt-of-le, mod-eq-of-lt, eq-zero-or-pos}
 use native.Mathlib.Omega.{arith}
-use mathlib.Core.Logic.{_⊎_, inl, inr}
-use mathlib.Core.Bool.{Bool}
+use mathlib.Core.Logic.{inl, inr}
 use lib.Dec.{lit≤}
 use lib.Pow.{shr-le}
 use lib.Count.{leadingZeros}
 use lib.IntN.{ℤ, subℕ}
 use lib.Signed.{mag}
-use lib.Ieee.{binary32, round}
 use lib.Ieee.Fits.{nearest-le}
 use lib.Ieee.Nearest.{closest}
-use mir.Syntax.{w64}
-use mir.Val.{Fits}
 use borrow.Author.Needs.{needs}
 use Rattle.float.specs.Finite.{rounded}
 use Rattle.float.specs.Inside.{packOf}
@@ -49,10 +45,7 @@ total : (a q n : ℕ) → a < 3001 → q ≤ suc n → n < 9223372036854775808 �
 total a q n h g k = omega arith
 
 closest-le : (n s : ℕ) → closest n (2 ^ s) ≤ suc n
-closest-le n s = le-trans (nearest-le (n / 2 ^ s) (compare (n % 2 ^ s * 2) (2 ^ s))) (up (n / 2 ^ s) n (shr-le n s))
-  where
-    up : (a b : ℕ) → a ≤ b → suc a ≤ suc b
-    up a b h = omega arith
+closest-le n s = le-trans (nearest-le (n / 2 ^ s) (compare (n % 2 ^ s * 2) (2 ^ s))) (omega (arith, shr-le n s))
 
 returns : tie.Need-returns
 returns c = λ s x p. zero-packs s (c .before .args .w) x (c .if1 .taken)
@@ -90,16 +83,10 @@ nearest-shift-requires c κs =
     let w = c .before .before .before .args .w in
     let u = leadingZeros 64 w - 1 in
     let t : Placed w u = at-top w (c .before .before .if1 .left) (c .before .before .before .pre .0) in
-    (some (c .below .result), subst (λ (z : ℕ). z < 9223372036854775808) (sym (kept w u (t .3))) (t .3))
-  where
-    some : (b : ℕ) → 1 ≤ 39 + b
-    some b = omega arith
+    ((omega arith), subst (λ (z : ℕ). z < 9223372036854775808) (sym (kept w u (t .3))) (t .3))
 
 above-requires : tie.Need-above-requires
-above-requires c κs = loose-d (mag (held (c .before .before .dropped .result))) (subst (λ (z : ℤ). mag z < 2000) (sym (small-d (c .before .before .dropped .result) (c .before .before .dropped .ensures .0))) (c .before .before .dropped .ensures .0))
-  where
-    loose-d : (n : ℕ) → n < 2000 → n < 3000
-    loose-d n h = omega arith
+above-requires c κs = omega (arith, (subst (λ (z : ℤ). mag z < 2000) (sym (small-d (c .before .before .dropped .result) (c .before .before .dropped .ensures .0))) (c .before .before .dropped .ensures .0)))
 
 cast-result : tie.Need-cast-result
 cast-result c = search needs

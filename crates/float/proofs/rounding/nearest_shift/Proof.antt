@@ -1,16 +1,10 @@
-use mathlib.Core.Path.{_≡_, refl, sym, ap, ap₂, _∙_, subst}
-use mathlib.Core.Logic.{_⊎_, inl, inr}
-use Prim.Native.Nat.{ℕ, zero, suc, _+_, _-_, _*_, _/_, _%_, _^_, _≤_, _<_, zero-le, compare}
-use native.Mathlib.Nat.{le-trans, le-of-eq, le-refl, lt-of-lt-of-le, lt-of-le-of-lt, mod-eq-of-lt, mod-lt, mod-le, one-mul, zero-mul, div-le-self, le-antisymm, le-of-suc-le-suc}
+use mathlib.Core.Path.{_≡_, sym, ap, _∙_, subst}
+use Prim.Native.Nat.{ℕ, zero, suc, _+_, _-_, _*_, _/_, _%_, _^_, _≤_, _<_, zero-le}
+use native.Mathlib.Nat.{le-trans, le-of-eq, lt-of-lt-of-le, mod-le, zero-mul, le-antisymm}
 use native.Mathlib.Omega.{arith}
-use mathlib.Core.Bool.{Bool, true, false, not, cond, _&&_, Bool·beq}
-use lib.Dec.{T, eqb, ltb, lit≤, lit<}
 use lib.Bits.{bitAnd}
 use lib.Pow.{pow-pos, pow-mono, shr-le}
-use mir.Syntax.{w32, w64}
-use mir.Val.{Fits}
 use borrow.Author.Needs.{needs}
-use borrow.Author.Tests.{eq-eqb, ne-eqb, lt-ltb, le-ltb}
 use Rattle.float.proofs.rounding.nearest_shift.Statement.{statement}
 use Rattle.float.proofs.rounding.nearest_shift.Tie as tie
 use lib.Ieee.{nearest}
@@ -22,13 +16,7 @@ within : (d : ℕ) → d ≤ 63 → d < 64
 within d h = omega arith
 
 all-cut : (w s : ℕ) → w < 2 ^ 63 → 63 < s → closest w (2 ^ s) ≡ 0
-all-cut w s h g = closest-down w (2 ^ s) 0 (pow-pos s) (le-trans (le-of-eq (zero-mul (2 ^ s))) zero-le) (subst (λ (x : ℕ). w * 2 < x * 2 + 2 ^ s) (sym (zero-mul (2 ^ s))) (lt-of-lt-of-le (twice w h) (le-trans (pow-mono g) (plain (2 ^ s)))))
-  where
-    twice : (w : ℕ) → w < 9223372036854775808 → w * 2 < 18446744073709551616
-    twice w h = omega arith
-
-    plain : (x : ℕ) → x ≤ 0 * 2 + x
-    plain x = omega arith
+all-cut w s h g = closest-down w (2 ^ s) 0 (pow-pos s) (le-trans (le-of-eq (zero-mul (2 ^ s))) zero-le) (subst (λ (x : ℕ). w * 2 < x * 2 + 2 ^ s) (sym (zero-mul (2 ^ s))) (lt-of-lt-of-le (omega arith) (le-trans (pow-mono g) (omega arith))))
 
 double : (x y : ℕ) → x ≤ y → y < 9223372036854775808 → x * 2 < 18446744073709551616
 double x y l h = omega arith
@@ -42,10 +30,7 @@ module _ (w s : ℕ) (g : s < 64) where
   less t = sym (nearest-lt (w / 2 ^ s) (w % 2 ^ s * 2) (2 ^ s) (subst (λ (x : ℕ). x < 2 ^ s) rest-is (subst (λ (x : ℕ). bitAnd w (1 * 2 ^ s % 18446744073709551616 - 1) * 2 < x) (unit-is s g) t)))
 
   over : 1 * 2 ^ s % 18446744073709551616 < bitAnd w (1 * 2 ^ s % 18446744073709551616 - 1) * 2 → w / 2 ^ s + 1 ≡ closest w (2 ^ s)
-  over t = next (w / 2 ^ s) ∙ sym (nearest-gt (w / 2 ^ s) (w % 2 ^ s * 2) (2 ^ s) (subst (λ (x : ℕ). 2 ^ s < x) rest-is (subst (λ (x : ℕ). x < bitAnd w (1 * 2 ^ s % 18446744073709551616 - 1) * 2) (unit-is s g) t)))
-    where
-      next : (n : ℕ) → n + 1 ≡ suc n
-      next n = omega arith
+  over t = omega arith ∙ sym (nearest-gt (w / 2 ^ s) (w % 2 ^ s * 2) (2 ^ s) (subst (λ (x : ℕ). 2 ^ s < x) rest-is (subst (λ (x : ℕ). x < bitAnd w (1 * 2 ^ s % 18446744073709551616 - 1) * 2) (unit-is s g) t)))
 
   tie-even : 1 * 2 ^ s % 18446744073709551616 ≤ bitAnd w (1 * 2 ^ s % 18446744073709551616 - 1) * 2 → bitAnd w (1 * 2 ^ s % 18446744073709551616 - 1) * 2 ≤ 1 * 2 ^ s % 18446744073709551616 → w / 2 ^ s + w / 2 ^ s % 2 ≡ closest w (2 ^ s)
   tie-even t u = sym (nearest-eq (w / 2 ^ s) (w % 2 ^ s * 2) (2 ^ s) (sym rest-is ∙ le-antisymm u t ∙ unit-is s g))

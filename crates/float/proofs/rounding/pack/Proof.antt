@@ -1,21 +1,14 @@
-use mathlib.Core.Path.{_≡_, refl, sym, ap, ap₂, _∙_, subst}
-use mathlib.Core.Logic.{_⊎_, inl, inr}
-use Prim.Native.Nat.{ℕ, zero, suc, _+_, _-_, _*_, _/_, _%_, _^_, _≤_, _<_, zero-le, compare}
-use native.Mathlib.Nat.{le-trans, le-of-eq, le-refl, lt-of-lt-of-le, lt-of-le-of-lt, mod-eq-of-lt, mod-lt, mod-le, one-mul, zero-mul, div-le-self, le-antisymm, le-of-suc-le-suc}
+use mathlib.Core.Path.{_≡_, sym, ap, _∙_}
+use Prim.Native.Nat.{ℕ, zero, _+_, _-_, _%_, _≤_, _<_}
 use native.Mathlib.Omega.{arith}
-use mathlib.Core.Bool.{Bool, true, false, not, cond, _&&_, Bool·beq}
-use lib.Dec.{T, eqb, ltb, lit≤, lit<}
-use lib.Bits.{bitAnd}
-use lib.Pow.{pow-pos, pow-mono, shr-le}
-use mir.Syntax.{w32, w64}
-use mir.Val.{Fits}
+use mathlib.Core.Bool.{Bool, true, false, not, cond}
+use lib.Dec.{T}
 use borrow.Author.Needs.{needs}
-use borrow.Author.Tests.{eq-eqb, ne-eqb, lt-ltb, le-ltb}
+use borrow.Author.Tests.{lt-ltb, le-ltb}
 use Rattle.float.proofs.rounding.pack.Statement.{statement}
 use Rattle.float.proofs.rounding.pack.Tie as tie
 use lib.Ieee.{binary32, ofBits, nanBits}
 use lib.Ieee.Bits.{nanBits-above}
-use Rattle.float.specs.declared.Rounded.{Rounded}
 use Rattle.float.specs.declared.Rounded.the-variants.{Finite, Nothing}
 use Rattle.float.specs.Inside.{packOf}
 use Rattle.float.proofs.Words.{T-not-of}
@@ -32,10 +25,7 @@ minus : (s : Bool) (b : ℕ) → s ≡ true → b < 2139095040 → Finite (ofBit
 minus s b e h = ap (λ (t : Bool). Finite (ofBits binary32 (cond t 2147483648 0 + b))) (sym e) ∙ within s b h
 
 plus : (s : Bool) (b : ℕ) → s ≡ false → b < 2139095040 → Finite (ofBits binary32 b) ≡ packOf s b
-plus s b e h = ap (λ (x : ℕ). Finite (ofBits binary32 x)) (zero-more b) ∙ ap (λ (t : Bool). Finite (ofBits binary32 (cond t 2147483648 0 + b))) (sym e) ∙ within s b h
-  where
-    zero-more : (b : ℕ) → b ≡ 0 + b
-    zero-more b = omega arith
+plus s b e h = ap (λ (x : ℕ). Finite (ofBits binary32 x)) (omega arith) ∙ ap (λ (t : Bool). Finite (ofBits binary32 (cond t 2147483648 0 + b))) (sym e) ∙ within s b h
 
 no-nan : (n : ℕ) → n % 2147483648 ≤ 2139095040 → T (not (nanBits binary32 n))
 no-nan n h = T-not-of (nanBits-above binary32 n ∙ le-ltb 2139095040 (n % 2147483648) h)

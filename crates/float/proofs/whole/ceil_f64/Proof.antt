@@ -1,11 +1,11 @@
-use mathlib.Core.Path.{_≡_, sym, ap, _∙_, subst}
+use mathlib.Core.Path.{_≡_, ap, _∙_, subst}
 use mathlib.Core.Bool.{true, false}
-use Prim.Native.Nat.{ℕ, _+_, _^_, _<_}
+use Prim.Native.Nat.{ℕ, _+_, _^_}
 use native.Mathlib.Omega.{arith}
 use borrow.Author.Needs.{needs}
 use lib.Dec.{le→leb}
 use lib.IntN.{pos}
-use lib.Ieee.{binary64, ofInt, ofBits, inFloat, lt, toUnsigned}
+use lib.Ieee.{binary64, ofInt, ofBits, inFloat, lt}
 use Rattle.float.proofs.Words.{T-of}
 use Rattle.float.proofs.Cuts.{cut-small, ceil-over, ceil-under, ceil-whole-part}
 use Rattle.float.proofs.whole.ceil_f64.Statement.{statement}

@@ -1,10 +1,10 @@
-use mathlib.Core.Path.{_≡_, sym, ap, _∙_, subst}
+use mathlib.Core.Path.{_≡_, ap, _∙_, subst}
 use mathlib.Core.Bool.{true, false}
-use Prim.Native.Nat.{ℕ, _+_, _^_, _<_}
+use Prim.Native.Nat.{ℕ, _+_, _^_}
 use native.Mathlib.Omega.{arith}
 use borrow.Author.Needs.{needs}
 use lib.Dec.{le→leb}
-use lib.Ieee.{ofBits, inFloat, lt, toUnsigned}
+use lib.Ieee.{ofBits, inFloat, lt}
 use Rattle.float.proofs.Words.{T-of}
 use Rattle.float.proofs.Cuts.{middle, cut-small, round-over, round-under, round-whole-part}
 use Rattle.float.proofs.whole.round_f64.Statement.{statement}
