@@ -104,24 +104,15 @@ natAbs-lt (negsuc n) k h = omega arith
 pub cast-out : (z : ℤ) → mag z < 100000 → Fits w32 (natAbs z)
 cast-out z h = record { fits = lt-of-lt-of-le (natAbs-lt z 100000 h) (lit≤ tt) }
 
--- of a difference that is not negative, and of one that is
+-- of a difference
 pub natAbs-above : (a b : ℕ) → ltZ (subℕ a b) (pos 0) ≡ false → natAbs (subℕ a b) ≡ a - b
 natAbs-above a b h = elim (side a b) [ inl l ↦ absurd (true≢false (sym (ap (λ (z : ℤ). ltZ z (pos 0)) (at-below a b l)) ∙ h)) | inr l ↦ ap natAbs (at-above a b l) ]
-
-pub natAbs-below : (a b : ℕ) → ltZ (subℕ a b) (pos 0) ≡ true → natAbs (subℕ b a) ≡ b - a
-natAbs-below a b h = elim (side a b) [ inl l ↦ ap natAbs (at-above b a (le-of-lt l)) | inr l ↦ absurd (no (a - b) (sym (ap (λ (z : ℤ). ltZ z (pos 0)) (at-above a b l)) ∙ h)) ]
-  where
-    no : (n : ℕ) → ltb n 0 ≡ true → ⊥
-    no n h = omega (arith, ltb-true n 0 h)
 
 pub lt-of-negative : (a b : ℕ) → ltZ (subℕ a b) (pos 0) ≡ true → a < b
 lt-of-negative a b h = elim (side a b) [ inl l ↦ l | inr l ↦ absurd (no (a - b) (sym (ap (λ (z : ℤ). ltZ z (pos 0)) (at-above a b l)) ∙ h)) ]
   where
     no : (n : ℕ) → ltb n 0 ≡ true → ⊥
     no n h = omega (arith, ltb-true n 0 h)
-
-pub le-of-nonNeg : (a b : ℕ) → ltZ (subℕ a b) (pos 0) ≡ false → b ≤ a
-le-of-nonNeg a b h = elim (side a b) [ inl l ↦ absurd (true≢false (sym (ap (λ (z : ℤ). ltZ z (pos 0)) (at-below a b l)) ∙ h)) | inr l ↦ l ]
 
 -- ---- sums and differences of locals, for numbers that are small
 pub small : (n k : ℕ) → n < k → T (leb k 100000) → n < 100000
@@ -144,18 +135,6 @@ wider n k h t = lt-of-lt-of-le h (lit≤ t)
 
 pub back' : (z : ℤ) → mag z < 10000 → held z ≡ z
 back' z h = back z (small (mag z) 10000 h tt)
-
--- the opposite of a negative number
-no-zero : (n : ℕ) → ltb n 0 ≡ true → ⊥
-no-zero n h = omega (arith, ltb-true n 0 h)
-
-pub negated-nonNeg : (z : ℤ) → ltZ z (pos 0) ≡ true → T (nonNeg (pos 0 -ℤ z))
-negated-nonNeg (pos n) h = absurd (no-zero n h)
-negated-nonNeg (negsuc n) h = tt
-
-pub turned-lt : (z : ℤ) (k : ℕ) → ltZ z (pos 0) ≡ true → mag z < k → natAbs (pos 0 -ℤ z) < suc k
-turned-lt (pos n) k h g = absurd (no-zero n h)
-turned-lt (negsuc n) k h g = omega arith
 
 -- an exponent's local, as a callee is handed it
 pub place-held : (e : ℤ) → mag e < 1000 → held e ≡ e
