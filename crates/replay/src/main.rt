@@ -4,15 +4,6 @@ ghost use Prim.Native.Nat.{_<_};
 use libc::STDIN_FILENO;
 use libc::STDOUT_FILENO;
 
-// The f32 of four bytes; every NaN pattern is one NaN.
-fn float_of(bits: u32) -> f32 {
-    let size = bits % 0x8000_0000;
-    if size <= 0x7f80_0000 {
-        return f32::from_bits(bits);
-    }
-    0.0 / 0.0
-}
-
 fn wide(b: u8) -> u32
     ensures { λ r. ⌜ r < 256 ⌝ }
 {
@@ -26,7 +17,7 @@ fn word(b: [u8; 4]) -> u32 {
 fn print_score(bits: u32) -> bool {
     io::print_hex(STDOUT_FILENO, bits as u64, 8);
     io::write_all(STDOUT_FILENO, b" ");
-    io::print_decimal(STDOUT_FILENO, score::score(float_of(bits)));
+    io::print_decimal(STDOUT_FILENO, score::score(float::from_bits(bits)));
     io::write_all(STDOUT_FILENO, b"\n")
 }
 
