@@ -98,17 +98,23 @@ fn rounded_sum(s: bool, x: u64, t: bool, y: u64, e: i32) -> Rounded
     pack(neg, bits)
 }
 
-// ±p ±c, with 14 places free below the product and 38 below the addend. The one that stands lower is cut off at the other's place.
+// ±x at the exponent e, the higher one, and ±y at d, cut off there.
+fn jammed_sum(s: bool, x: u64, e: i32, t: bool, y: u64, d: i32) -> Rounded
+    requires { ⌜ (x + y + 1 < 2 ^ 63) × (mag e < 1000) × (mag d < 1000) ⌝ }
+    ensures { λ r. ⌜ ((i j : ℕ) → e ≡ subℕ i 314 → d ≡ subℕ j 314 → r ≡ rounded (round binary32 (negOf s x t (jamOf y (i - j))) (magOf s x t (jamOf y (i - j)) * 2 ^ i) (2 ^ 314))) ⌝ }
+{
+    rounded_sum(s, x, t, jam(y, gap(e, d)), e)
+}
+
+// ±p ±c, with 14 places free below the product and 38 below the addend.
 fn aligned_sum(s: bool, p: u64, e: i32, t: bool, c: u64, d: i32) -> Rounded
     requires { ⌜ (p < 2 ^ 48) × (c < 2 ^ 24) × (mag e < 1000) × (mag d < 1000) ⌝ }
     ensures { λ r. ⌜ ((x y : ℕ) → e ≡ subℕ x 314 → d ≡ subℕ y 314 → (8388608 ≤ p) ⊎ (x ≤ 163) → (8388608 ≤ c) ⊎ (y ≤ 163) → r ≡ rounded (sum binary32 s (p * 2 ^ 14 * 2 ^ x) t (c * 2 ^ 38 * 2 ^ y) (2 ^ 314))) ⌝ }
 {
-    let high = p << 14;
-    let low = c << 38;
     if d < e {
-        return rounded_sum(s, high, t, jam(low, gap(e, d)), e);
+        return jammed_sum(s, p << 14, e, t, c << 38, d);
     }
-    rounded_sum(t, low, s, jam(high, gap(d, e)), d)
+    jammed_sum(t, c << 38, d, s, p << 14, e)
 }
 
 // On three patterns, all of finite floats.
