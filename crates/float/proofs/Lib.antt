@@ -14,4 +14,5 @@ pub mod Roots
 pub mod RootExact
 pub mod Near
 pub mod NearestRoot
+pub mod Unique
 pub mod Examples

@@ -1,4 +1,4 @@
-// One rounding, for both: a word times a power of two to the bits of the nearest f32, a tie to the even one.
+// One rounding for the fused sum, the root and a count: a word times a power of two to the bits of the nearest f32, a tie to the even one.
 // Exponents are i32. A contract names an exponent's place, counted from -314, as a natural number: whoever knows it gets the answer in natural numbers.
 ghost use mathlib.Core.Path.{_≡_};
 ghost use mathlib.Core.Bool.{Bool};
@@ -73,6 +73,7 @@ pub(crate) fn magnitude_bits(w: u64, e: i32) -> u64
     above(d) as u64 * 0x80_0000 + q
 }
 
+// The float of a sign and the bits without it, where there is a finite one.
 pub(crate) fn pack(negative: bool, bits: u64) -> Rounded
     ensures { λ r. ⌜ r ≡ packOf negative bits ⌝ }
 {
