@@ -8,8 +8,9 @@ use lib.Dec.{T, eqb, eqb-refl, lit<}
 use lib.Arith.{lt-one}
 use lib.Bits.{bitAnd, and-mask}
 use lib.Pow.{pow-pos, shl-exact}
-use lib.Ieee.{Float, nan, inf, fin, up, down, ne, isNan}
-use lib.Ieee.Bits.{is-true}
+use lib.Ieee.{Float, nan, inf, fin, binary32, up, down, ne, isNan, nanBits}
+use lib.Ieee.Bits.{is-true, nanBits-above}
+use borrow.Author.Tests.{le-ltb}
 
 -- 1 << d
 pub unit-is : (d : ℕ) → d < 64 → 1 * 2 ^ d % 18446744073709551616 ≡ 2 ^ d
@@ -39,3 +40,7 @@ T-not-of {b} h = subst (λ (t : Bool). T (not t)) (sym h) tt
 
 pub T-of : {b : Bool} → b ≡ true → T b
 T-of {b} h = subst T (sym h) tt
+
+-- a pattern whose size is at most an infinity's is no NaN's
+pub no-nan : (n : ℕ) → n % 2147483648 ≤ 2139095040 → T (not (nanBits binary32 n))
+no-nan n h = T-not-of (nanBits-above binary32 n ∙ le-ltb 2139095040 (n % 2147483648) h)

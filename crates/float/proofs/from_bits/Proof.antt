@@ -3,10 +3,10 @@ use mathlib.Core.Bool.{true, false, true≢false}
 use Prim.Native.Nat.{ℕ, _%_, _<_}
 use native.Mathlib.Omega.{arith}
 use borrow.Author.Needs.{needs}
-use borrow.Author.Tests.{le-ltb, lt-ltb}
+use borrow.Author.Tests.{lt-ltb}
 use lib.Ieee.{Float, nan, inf, fin, binary32, ofBits, isNan, div}
 use lib.Ieee.Bits.{nanBits-is, nanBits-above}
-use Rattle.float.proofs.Words.{T-not-of}
+use Rattle.float.proofs.Words.{no-nan}
 use Rattle.float.proofs.from_bits.Statement.{statement}
 use Rattle.float.proofs.from_bits.Tie as tie
 
@@ -24,7 +24,7 @@ unfolding div ofBits
 quiet = refl
 
 float-from-bits-result : tie.Need-float-from-bits-result
-float-from-bits-result c = T-not-of (nanBits-above binary32 (c .before .args .bits) ∙ le-ltb _ _ (c .if1 .taken))
+float-from-bits-result c = no-nan (c .before .args .bits) (omega arith)
 
 returns : tie.Need-returns
 returns c = search needs
