@@ -1,4 +1,4 @@
--- A finite number, or the word that there is none.
+-- Document 01's answer of both helpers: a finite number, or the word that there is none.
 use mathlib.Core.Bool.{Bool, true, false}
 use lib.IntN.{pos}
 use lib.Ieee.{Float, nan, inf, fin}
@@ -10,6 +10,7 @@ isFinite nan = false
 isFinite (inf s) = false
 isFinite (fin s m e) = true
 
+-- a rounded result, which may have overflowed
 abbrev pub rounded : Float → Rounded
 rounded nan = Nothing
 rounded (inf s) = Nothing

@@ -1,4 +1,4 @@
--- The square root, rounded once.
+-- The square root, rounded once: document 01's square root. What this text comes to is said without roots in Nearest, and proved.
 use Prim.Native.Nat.{ℕ, zero, suc, _+_, _*_, _/_, _^_}
 use mathlib.Core.Bool.{true, false, cond}
 use lib.Dec.{leb, eqb}
@@ -21,7 +21,8 @@ unfoldable pub twiceRoot : ℕ → ℕ
 unfolding integerRoot
 twiceRoot n = let r = integerRoot n in 2 * r + cond (eqb (r * r) n) 0 1
 
--- The root of x is that of x * 2 ^ 300, over 2 ^ 150. Twice that root stands with at least 76 digits, so one rounding of it is the rounding of the root.
+-- '−0 gives −0; other negatives and non-finite values get the word.' Otherwise the root of x is that of x * 2 ^ 300, over 2 ^ 150. Twice that root stands with at
+-- least 76 digits, so one rounding of it is the rounding of the root.
 unfoldable pub rootOf : Float → Rounded
 rootOf nan = Nothing
 rootOf (inf s) = Nothing
