@@ -5,8 +5,13 @@
 //! and the `Option`. `f32::mul_add` is rustc's own function, which jumps to the processor's instruction where there is one; `f32::sqrt` is an
 //! instruction. The calls do not wait for each other. Rounds alternate between the two sides, and the median round counts.
 
+#[path = "../tests/common/random.rs"]
+mod random;
+
 use std::hint::black_box;
 use std::time::Instant;
+
+use random::Random;
 
 const INPUTS: usize = 4_096;
 const ROUNDS: usize = 101;
@@ -66,37 +71,28 @@ fn compare<P, M>(name: &str, inputs: &[[f32; 3]], port: Call<P>, machine: Call<M
     );
 }
 
-/// Splitmix64: the same operands in every run.
-fn word(state: &mut u64) -> u64 {
-    *state = state.wrapping_add(0x9e37_79b9_7f4a_7c15);
-    let mut word = *state;
-    word = (word ^ word >> 30).wrapping_mul(0xbf58_476d_1ce4_e5b9);
-    word = (word ^ word >> 27).wrapping_mul(0x94d0_49bb_1331_11eb);
-    word ^ word >> 31
-}
-
-fn inputs(mut one: impl FnMut(&mut u64) -> [f32; 3]) -> Vec<[f32; 3]> {
-    let mut state = 0;
-    (0..INPUTS).map(|_| one(&mut state)).collect()
+fn inputs(mut one: impl FnMut(&mut Random) -> [f32; 3]) -> Vec<[f32; 3]> {
+    let mut random = Random::new(0);
+    (0..INPUTS).map(|_| one(&mut random)).collect()
 }
 
 /// From -1 to 1, on the grid of 16-bit sound.
-fn sample(state: &mut u64) -> f32 {
-    f32::from(word(state) as i16) / 32_768.0
+fn sample(random: &mut Random) -> f32 {
+    f32::from(random.word() as i16) / 32_768.0
 }
 
 fn main() {
     // As the pre-emphasis and the high-pass filter of the original call it.
-    let emphasis = inputs(|state| [0.97, -sample(state), sample(state)]);
-    let filter = inputs(|state| [-1.972_234, sample(state), 0.972_613 * sample(state)]);
+    let emphasis = inputs(|random| [0.97, -sample(random), sample(random)]);
+    let filter = inputs(|random| [-1.972_234, sample(random), 0.972_613 * sample(random)]);
     // A filter's tail after the sound has stopped.
-    let silence = inputs(|state| {
-        let small = |state: &mut u64| f32::from_bits(word(state) as u32 & 0x80ff_ffff);
-        [0.97, small(state), small(state)]
+    let silence = inputs(|random| {
+        let small = |random: &mut Random| f32::from_bits(random.word() as u32 & 0x80ff_ffff);
+        [0.97, small(random), small(random)]
     });
-    let bits = inputs(|state| [(); 3].map(|()| f32::from_bits(word(state) as u32)));
-    let powers = inputs(|state| [sample(state).powi(2), 0.0, 0.0]);
-    let small = inputs(|state| [f32::from_bits(word(state) as u32 & 0x7f_ffff), 0.0, 0.0]);
+    let bits = inputs(|random| [(); 3].map(|()| f32::from_bits(random.word() as u32)));
+    let powers = inputs(|random| [sample(random).powi(2), 0.0, 0.0]);
+    let small = inputs(|random| [f32::from_bits(random.word() as u32 & 0x7f_ffff), 0.0, 0.0]);
 
     println!(
         "ns a call, through a pointer, independent calls; the median of {ROUNDS} rounds of {INPUTS}"

@@ -11,6 +11,8 @@
 mod cases;
 #[path = "float/exact.rs"]
 mod exact;
+#[path = "common/random.rs"]
+mod random;
 
 use std::io::Write;
 use std::ops::AddAssign;
@@ -20,10 +22,11 @@ use std::sync::{LazyLock, Mutex, PoisonError};
 use std::thread;
 use std::time::{Duration, Instant};
 
-use cases::{Family, Random, compose, special};
+use cases::{Family, compose, special};
 use exact::Place;
 use fallowcart::float::{mul_add, mul_add_bits, sqrt, sqrt_bits};
 use fallowcart::score;
+use random::Random;
 
 /// a * b + c by the processor's instruction, `None` where there is none.
 fn by_instruction(a: f32, b: f32, c: f32) -> Option<f32> {

@@ -2,12 +2,11 @@
 //!
 //! The long run, every f32: `cargo test --release --offline --test whole -- --ignored --nocapture`.
 
-#[path = "float/cases.rs"]
-#[allow(dead_code)]
-mod cases;
+#[path = "common/random.rs"]
+mod random;
 
-use cases::Random;
 use fallowcart::whole::{ceil_f64, nearest, round_f32, round_f64};
+use random::Random;
 
 fn same_f32(bits: u32) {
     let x = f32::from_bits(bits);

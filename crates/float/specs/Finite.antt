@@ -1,14 +1,9 @@
 -- Document 01's answer of both helpers: a finite number, or the word that there is none.
-use mathlib.Core.Bool.{Bool, true, false}
+use mathlib.Core.Bool.{false}
 use lib.IntN.{pos}
 use lib.Ieee.{Float, nan, inf, fin}
 use Rattle.float.specs.declared.Rounded.{Rounded}
 use Rattle.float.specs.declared.Rounded.the-variants.{Finite, Nothing}
-
-unfoldable pub isFinite : Float → Bool
-isFinite nan = false
-isFinite (inf s) = false
-isFinite (fin s m e) = true
 
 -- a rounded result, which may have overflowed
 abbrev pub rounded : Float → Rounded

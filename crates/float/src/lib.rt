@@ -1,5 +1,5 @@
-// Rust's exactly rounded `mul_add` and `sqrt` of f32 (document 01, 'Float helpers'), in whole numbers alone, and the roundings to whole numbers that
-// settings and rows need.
+// Rust's exactly rounded `mul_add` and `sqrt` of f32 (document 01, 'Float helpers'), worked out in whole numbers from the bits, and the roundings to whole
+// numbers that settings and rows need.
 mod bits;
 mod fused;
 mod root;
@@ -8,7 +8,8 @@ pub mod whole;
 
 ghost use mathlib.Core.Path.{_≡_};
 ghost use lib.Ieee.{binary32, ofBits};
-ghost use Rattle.float.specs.Finite.{isFinite, orZero};
+ghost use lib.Ieee.Scale.{finite};
+ghost use Rattle.float.specs.Finite.{orZero};
 ghost use Rattle.float.specs.Fused.{fusedOf};
 ghost use Rattle.float.specs.Root.{rootOf};
 
@@ -30,7 +31,7 @@ pub fn or_zero(r: Rounded) -> f32
 
 // Neither an infinity nor a NaN.
 pub fn is_finite(x: f32) -> bool
-    ensures { λ r. ⌜ r ≡ isFinite x ⌝ }
+    ensures { λ r. ⌜ r ≡ finite x ⌝ }
 {
     bits::field(bits::bits_of(x)) != 255
 }

@@ -1,4 +1,4 @@
-// The door for C and Rust. Its parts of arithmetic are for tests: a float that may be a NaN of any pattern goes in and out as bits.
+// The door for C and Rust. Today it has the arithmetic and the score, so that tests can compare what was compiled.
 ghost use mathlib.Core.Path.{_≡_};
 ghost use lib.IntN.{pos};
 ghost use lib.Ieee.{binary32, ofBits, ofInt};
