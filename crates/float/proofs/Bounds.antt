@@ -129,7 +129,7 @@ place l (negsuc i) h = (l - suc i, one-mul (2 ^ l) ∙ ap (λ (z : ℕ). 2 ^ z) 
     under : (l i : ℕ) → 2 ^ i ≤ 2 ^ l → i ≤ l
     under l i h = elim (side l i) [ inl g ↦ absurd (not-le-of-lt (pow-lt g) h) | inr g ↦ g ]
 
-fits-parts : (f : Format) (s : Bool) (m : ℕ) (e : ℤ) → T (fits f (fin s m e)) → (m < 2 ^ prec f) × (down e ≤ 2 ^ low f) × (m * up e < 2 ^ suc (emax f) * down e)
+pub fits-parts : (f : Format) (s : Bool) (m : ℕ) (e : ℤ) → T (fits f (fin s m e)) → (m < 2 ^ prec f) × (down e ≤ 2 ^ low f) × (m * up e < 2 ^ suc (emax f) * down e)
 unfolding fits
 fits-parts f s zero e t = (
   pow-pos (prec f),

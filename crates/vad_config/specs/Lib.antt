@@ -1,0 +1,3 @@
+pub mod Domain
+pub mod Lengths
+pub mod Settings
