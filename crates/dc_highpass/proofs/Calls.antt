@@ -1,0 +1,97 @@
+-- What a call answers and leaves in the output, way by way. Assumes nothing.
+use mathlib.Core.Path.{_≡_, refl, sym, ap, _∙_}
+use mathlib.Core.Bool.{Bool, true, false, not, cond}
+use mathlib.Core.List.{List, [], _∷_, _++_, append-assoc}
+use Prim.Native.Nat.{ℕ, _+_, _-_, _≤_, _<_}
+use native.Mathlib.Nat.{zero-add}
+use native.Mathlib.Omega.{arith}
+use borrow.Author.Tests.{lt-ltb, le-ltb, ltb-false, ne-eqb}
+use lib.Dec.{ltb}
+use lib.ListN.{length, drop, replicate, length-append, length-replicate}
+use lib.Seq.{sets}
+use lib.Ieee.{Float}
+use lib.Ieee.Scale.{finite}
+use Rattle.dc_highpass.specs.Settings.{zero, soundOf}
+use Rattle.dc_highpass.specs.Filter.{biasedOf, passOf, resultsOf, afterOf, cleanOf, refused, checkOf, ranOf, processOf, writtenOf, outputAfter}
+use Rattle.dc_highpass.specs.declared.DcHighPassFilter.{DcHighPassFilter}
+use Rattle.dc_highpass.specs.declared.VadContext.{VadContext}
+use Rattle.dc_highpass.specs.declared.Refusal.{Refusal}
+use Rattle.dc_highpass.proofs.Turns.{sets-append, sets-all}
+
+pub results-le : (f : DcHighPassFilter) (xs : List Float) → length (resultsOf f xs) ≤ length xs
+unfolding resultsOf
+results-le f [] = omega arith
+results-le f (x ∷ xs) = go (finite (passOf f x .output)) (results-le (passOf f x .filter) xs)
+  where
+    go : (t : Bool) → length (resultsOf (passOf f x .filter) xs) ≤ length xs → length (cond t (passOf f x .output ∷ resultsOf (passOf f x .filter) xs) []) ≤ length (x ∷ xs)
+    go true ih = omega arith
+    go false ih = omega arith
+
+-- what a check that refuses nothing has found
+pub record Checked (f : DcHighPassFilter) (xs : List Float) (room : ℕ) : Type 0 where
+  pub sound : soundOf f ≡ true
+  pub short : length xs ≤ 1024
+  pub fits : length xs ≤ room
+  pub clean : length xs ≤ cleanOf xs
+  pub none : checkOf f xs room ≡ refused 0 0
+
+chain : (s l r b : Bool) (p : ℕ) → cond (not s) (refused 27 0) (cond l (refused 15 0) (cond r (refused 25 0) (cond b (refused 16 p) (refused 0 0)))) .number ≡ 0
+    → (s ≡ true) × (l ≡ false) × (r ≡ false) × (b ≡ false)
+chain true false false false p h = (refl, refl, refl, refl)
+chain true false false true p h = absurd (omega arith)
+chain true false true b p h = absurd (omega arith)
+chain true true r b p h = absurd (omega arith)
+chain false l r b p h = absurd (omega arith)
+
+pub checked : (f : DcHighPassFilter) (xs : List Float) (room : ℕ) → checkOf f xs room .number ≡ 0 → Checked f xs room
+unfolding checkOf
+checked f xs room h =
+    let t = chain (soundOf f) (ltb 1024 (length xs)) (ltb room (length xs)) (ltb (cleanOf xs) (length xs)) (cleanOf xs) h in
+    record {
+      sound = t .0;
+      short = ltb-false _ _ (t .1);
+      fits = ltb-false _ _ (t .2);
+      clean = ltb-false _ _ (t .3);
+      none = rw (t .0, t .1, t .2, t .3);
+    }
+
+-- what `run` and `clear` write one after the other
+pub written : (ys : List Float) (n : ℕ) (out : List Float) → length ys ≤ n → n ≤ length out → sets (sets out 0 ys) (length ys) (replicate (n - length ys) zero) ≡ writtenOf ys n out
+unfolding writtenOf
+written ys n out h k =
+    let zs = replicate (n - length ys) zero in
+    let long : length (ys ++ zs) ≡ n = (let a = length-append ys zs in let b = length-replicate (n - length ys) zero in omega arith) in
+    let joined : sets out 0 (ys ++ zs) ≡ sets (sets out 0 ys) (length ys) zs = sets-append out 0 ys zs ∙ rw (zero-add (length ys)) in
+    sym joined ∙ sets-all out (ys ++ zs) (omega arith) ∙ rw (long, append-assoc ys zs (drop n out))
+
+module _ (f : DcHighPassFilter) (xs : List Float) (label : VadContext) (room : ℕ) (r : Refusal) (e : r ≡ checkOf f xs room) where
+  pub answer-refused : (r .number ≡ 0 → ⊥) → record { refusal = r; filter = f } ≡ processOf f xs label room
+  unfolding processOf
+  answer-refused z = rw (← e, ne-eqb (r .number) 0 z)
+
+  module _ (z : r .number ≡ 0) (g : DcHighPassFilter) (b : g ≡ biasedOf f xs label) (n : ℕ) (c : n ≡ length (resultsOf g xs)) where
+    pub answer-stuck : n < length xs → record { refusal = refused 26 n; filter = f } ≡ processOf f xs label room
+    unfolding processOf ranOf
+    answer-stuck l = rw (← e, z, ← b, ← c, lt-ltb n (length xs) l)
+
+    pub answer-done : length xs ≤ n → (h : DcHighPassFilter) → h ≡ afterOf g xs → record { refusal = r; filter = h } ≡ processOf f xs label room
+    unfolding processOf ranOf
+    answer-done l h a =
+        let none = checked f xs room (ap (λ (q : Refusal). q .number) (sym e) ∙ z) .none in
+        rw (← b, ← a, ← c, le-ltb n (length xs) l, none, e ∙ none)
+
+module _ (f : DcHighPassFilter) (xs : List Float) (label : VadContext) (out : List Float) where
+  pub output-refused : (checkOf f xs (length out) .number ≡ 0 → ⊥) → out ≡ outputAfter f xs label out
+  unfolding outputAfter
+  output-refused z = rw (ne-eqb (checkOf f xs (length out) .number) 0 z)
+
+  module _ (z : checkOf f xs (length out) .number ≡ 0) (g : DcHighPassFilter) (b : g ≡ biasedOf f xs label) (n : ℕ) (c : n ≡ length (resultsOf g xs)) (mid : List Float) (ran : mid ≡ sets out 0 (resultsOf g xs)) where
+    at-written : writtenOf (resultsOf g xs) (length xs) out ≡ outputAfter f xs label out
+    unfolding outputAfter
+    at-written = rw (z, b)
+
+    pub output-stuck : (last : List Float) → last ≡ sets mid n (replicate (length xs - n) zero) → last ≡ outputAfter f xs label out
+    output-stuck last e = e ∙ rw (ran, c) (written (resultsOf g xs) (length xs) out (results-le g xs) (checked f xs (length out) z .fits) ∙ at-written)
+
+    pub output-done : length xs ≤ n → mid ≡ outputAfter f xs label out
+    output-done l = let none : length xs - n ≡ 0 = omega arith in output-stuck mid (rw none)

@@ -1,0 +1,106 @@
+-- One turn of each loop, over plain lists. Assumes nothing.
+use mathlib.Core.Path.{_≡_, refl, _∙_}
+use mathlib.Core.Bool.{true, false}
+use mathlib.Core.List.{List, [], _∷_, _++_}
+use Prim.Native.Nat.{ℕ, suc, _+_, _-_, _≤_, _<_}
+use native.Mathlib.Nat.{zero-add, add-zero}
+use native.Mathlib.Numerals.{add-one}
+use native.Mathlib.Omega.{arith}
+use lib.ListN.{length, drop, set, getD, replicate, drop-of-length-le}
+use lib.Seq.{drop-cons, sets, sets-eq}
+use lib.Ieee.{Float, nan, binary32, add}
+use lib.Ieee.Scale.{finite}
+use Rattle.dc_highpass.specs.Filter.{coefficientsOf, freshOf, nothingOpen, openOf, isEmpty, sumFrom, cleanOf, inDomain, passOf, resultsOf, afterOf}
+use Rattle.dc_highpass.specs.declared.DcHighPassFilter.{DcHighPassFilter}
+use Rattle.dc_highpass.specs.declared.PreprocessingConfig.{PreprocessingConfig}
+use Rattle.dc_highpass.specs.Settings.{refusalOf}
+use borrow.Author.Tests.{ne-eqb}
+
+pub sum-end : (t : Float) (i : ℕ) (xs : List Float) → length xs ≤ i → sumFrom t (drop i xs) ≡ t
+unfolding sumFrom
+sum-end t i xs h = rw (drop-of-length-le xs h)
+
+pub clean-end : (i : ℕ) (xs : List Float) → length xs ≤ i → cleanOf (drop i xs) ≡ 0
+unfolding cleanOf
+clean-end i xs h = rw (drop-of-length-le xs h)
+
+pub results-end : (f : DcHighPassFilter) (i : ℕ) (xs : List Float) → length xs ≤ i → resultsOf f (drop i xs) ≡ []
+unfolding resultsOf
+results-end f i xs h = rw (drop-of-length-le xs h)
+
+pub after-end : (f : DcHighPassFilter) (i : ℕ) (xs : List Float) → length xs ≤ i → afterOf f (drop i xs) ≡ f
+unfolding afterOf
+after-end f i xs h = rw (drop-of-length-le xs h)
+
+module _ (i : ℕ) (xs : List Float) (h : i < length xs) where
+  next : drop (i + 1) xs ≡ drop (suc i) xs
+  next = rw (add-one i)
+
+  pub sum-step : (t : Float) → sumFrom (add binary32 t (getD xs i nan)) (drop (i + 1) xs) ≡ sumFrom t (drop i xs)
+  unfolding sumFrom
+  sum-step t = rw (next, drop-cons xs i nan)
+
+  pub clean-step : inDomain (getD xs i nan) ≡ true → cleanOf (drop i xs) ≡ suc (cleanOf (drop (i + 1) xs))
+  unfolding cleanOf
+  clean-step d = rw (next, drop-cons xs i nan, d)
+
+  pub clean-stop : inDomain (getD xs i nan) ≡ false → cleanOf (drop i xs) ≡ 0
+  unfolding cleanOf
+  clean-stop d = rw (drop-cons xs i nan, d)
+
+  module _ (f : DcHighPassFilter) where
+    pub results-step : finite (passOf f (getD xs i nan) .output) ≡ true
+        → resultsOf f (drop i xs) ≡ passOf f (getD xs i nan) .output ∷ resultsOf (passOf f (getD xs i nan) .filter) (drop (i + 1) xs)
+    unfolding resultsOf
+    results-step d = rw (next, drop-cons xs i nan, d)
+
+    pub after-step : finite (passOf f (getD xs i nan) .output) ≡ true → afterOf f (drop i xs) ≡ afterOf (passOf f (getD xs i nan) .filter) (drop (i + 1) xs)
+    unfolding afterOf
+    after-step d = rw (next, drop-cons xs i nan, d)
+
+    pub results-stop : finite (passOf f (getD xs i nan) .output) ≡ false → resultsOf f (drop i xs) ≡ []
+    unfolding resultsOf
+    results-stop d = rw (drop-cons xs i nan, d)
+
+    pub after-stop : finite (passOf f (getD xs i nan) .output) ≡ false → afterOf f (drop i xs) ≡ f
+    unfolding afterOf
+    after-stop d = rw (drop-cons xs i nan, d)
+
+-- ---- what is written
+
+pub sets-cons : (l : List Float) (i : ℕ) (v : Float) (vs : List Float) → sets (set l i v) (i + 1) vs ≡ sets l i (v ∷ vs)
+sets-cons l i v vs = rw (add-one i)
+
+pub clear-step : (l : List Float) (i n : ℕ) (z : Float) → i < n → sets (set l i z) (i + 1) (replicate (n - (i + 1)) z) ≡ sets l i (replicate (n - i) z)
+clear-step l i n z h = let e : n - i ≡ suc (n - (i + 1)) = omega arith in sets-cons l i z (replicate (n - (i + 1)) z) ∙ rw e
+
+pub clear-end : (l : List Float) (i n : ℕ) (z : Float) → n ≤ i → sets l i (replicate (n - i) z) ≡ l
+clear-end l i n z h = let e : n - i ≡ 0 = omega arith in rw e
+
+pub sets-append : (l : List Float) (i : ℕ) (a b : List Float) → sets l i (a ++ b) ≡ sets (sets l i a) (i + length a) b
+sets-append l i [] b = rw (add-zero i)
+sets-append l i (x ∷ a) b = let e : i + suc (length a) ≡ suc i + length a = omega arith in rw e (sets-append (set l i x) (suc i) a b)
+
+pub sets-all : (l vs : List Float) → length vs ≤ length l → sets l 0 vs ≡ vs ++ drop (length vs) l
+sets-all l vs h = rw (sets-eq vs l 0 (omega arith), zero-add (length vs))
+
+-- ---- the block's length
+
+pub empty-of : (xs : List Float) → length xs ≡ 0 → isEmpty xs ≡ true
+empty-of [] h = refl
+empty-of (x ∷ xs) h = absurd (omega arith)
+
+pub filled-of : (xs : List Float) → (length xs ≡ 0 → ⊥) → isEmpty xs ≡ false
+filled-of [] h = absurd (h refl)
+filled-of (x ∷ xs) h = refl
+
+-- ---- an opening, taken or refused
+
+module _ (c : PreprocessingConfig) (a : List (List Float)) (n : ℕ) (f : DcHighPassFilter) (e : n ≡ refusalOf c (coefficientsOf (getD a 0 [])) (coefficientsOf (getD a 1 []))) where
+  pub open-taken : n ≡ 0 → f ≡ freshOf c (coefficientsOf (getD a 0 [])) (coefficientsOf (getD a 1 [])) → record { refusal = n; filter = f } ≡ openOf c a
+  unfolding openOf
+  open-taken z t = rw (t, ← e, z)
+
+  pub open-refused : (n ≡ 0 → ⊥) → f ≡ nothingOpen → record { refusal = n; filter = f } ≡ openOf c a
+  unfolding openOf
+  open-refused z t = rw (t, ← e, ne-eqb n 0 z)

@@ -1,0 +1,26 @@
+use mathlib.Core.Path.{sym, ap}
+use borrow.Author.Needs.{needs}
+use Rattle.dc_highpass.specs.Filter.{listens}
+use Rattle.dc_highpass.proofs.listening.Statement.{statement}
+use Rattle.dc_highpass.proofs.listening.Tie as tie
+
+enum-told : tie.Need-enum-told
+enum-told c = search needs
+
+enum-told-2 : tie.Need-enum-told-2
+enum-told-2 c = search needs
+
+enum-told-3 : tie.Need-enum-told-3
+enum-told-3 c = search needs
+
+returns : tie.Need-returns
+returns c = search needs
+
+returns-2 : tie.Need-returns-2
+returns-2 c = search needs
+
+returns-3 : tie.Need-returns-3
+returns-3 c = sym (ap listens (c .enum-told3 .given .1))
+
+pub listening-spec : {M : Type 1} → statement M
+listening-spec = tie.close (tie.spec enum-told enum-told-2 enum-told-3 returns returns-2 returns-3)

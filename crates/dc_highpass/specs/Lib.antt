@@ -1,0 +1,5 @@
+pub mod Biquad
+pub mod Settings
+pub mod Filter
+pub mod Operations
+pub mod Run
