@@ -1,1 +1,4 @@
 pub mod Pattern
+pub mod Settings
+pub mod FilterState
+pub mod FilterDoor

@@ -1,4 +1,7 @@
-// The door for C and Rust. Today it has the arithmetic and the score, so that tests can compare what was compiled.
+// The door for C and Rust: the filter, the detector's settings, and the arithmetic and the score, so that tests can compare what was compiled.
+mod filter;
+mod settings;
+
 ghost use mathlib.Core.Path.{_≡_};
 ghost use lib.IntN.{pos};
 ghost use lib.Ieee.{binary32, ofBits, ofInt};

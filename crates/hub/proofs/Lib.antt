@@ -1,0 +1,4 @@
+pub mod Put
+pub mod Places
+pub mod Door
+pub mod RoundTrip

@@ -1,0 +1,333 @@
+// The filter's door. The host keeps the state as words, so that nothing of it is private to this library.
+ghost use mathlib.Core.Path.{_≡_};
+ghost use Prim.Native.Nat.{_+_, _≤_, _<_};
+ghost use lib.ListN.{length, set};
+ghost use lib.Seq.{sets};
+ghost use Rattle.hub.specs.FilterState.{numberAt, orderOf, coefficientsAt, memoryAt, stageAt, configAt, filterAt, readable, wordOf, flagWord, orderWord, configWords, coefficientWords, memoryWords, stageWords, written};
+ghost use Rattle.hub.specs.FilterDoor.{packed, settings, fiveAt, openedOf, openAnswer, openState, labelOf, processAnswer, processState, processOutput, resetAnswer, resetState, biasAnswer};
+use dc_highpass::DcHighPassFilter;
+use dc_highpass::HighpassOrder;
+use dc_highpass::Opened;
+use dc_highpass::PreprocessingConfig;
+use dc_highpass::VadContext;
+use dc_highpass::biquad::Biquad;
+use dc_highpass::biquad::BiquadCoefficients;
+use dc_highpass::biquad::BiquadState;
+
+fn order(fourth: bool) -> HighpassOrder
+    ensures { λ r. ⌜ r ≡ orderOf fourth ⌝ }
+{
+    if fourth {
+        return HighpassOrder::FourthOrder;
+    }
+    HighpassOrder::SecondOrder
+}
+
+fn number_at(words: &[u32], at: usize) -> f32
+    requires { ⌜ at < length (now words) ⌝ }
+    ensures { λ r. ⌜ r ≡ numberAt (now (words .entry)) at ⌝ }
+{
+    float::from_bits(words[at])
+}
+
+fn coefficients_at(words: &[u32], at: usize) -> BiquadCoefficients
+    requires { ⌜ at + 5 ≤ length (now words) ⌝ }
+    ensures { λ r. ⌜ r ≡ coefficientsAt (now (words .entry)) at ⌝ }
+{
+    BiquadCoefficients {
+        b0: number_at(words, at),
+        b1: number_at(words, at + 1),
+        b2: number_at(words, at + 2),
+        a1: number_at(words, at + 3),
+        a2: number_at(words, at + 4),
+    }
+}
+
+fn memory_at(words: &[u32], at: usize) -> BiquadState
+    requires { ⌜ at + 4 ≤ length (now words) ⌝ }
+    ensures { λ r. ⌜ r ≡ memoryAt (now (words .entry)) at ⌝ }
+{
+    BiquadState {
+        x1: number_at(words, at),
+        x2: number_at(words, at + 1),
+        y1: number_at(words, at + 2),
+        y2: number_at(words, at + 3),
+    }
+}
+
+fn stage_at(words: &[u32], at: usize) -> Biquad
+    requires { ⌜ at + 9 ≤ length (now words) ⌝ }
+    ensures { λ r. ⌜ r ≡ stageAt (now (words .entry)) at ⌝ }
+{
+    Biquad {
+        coeffs: coefficients_at(words, at),
+        state: memory_at(words, at + 5),
+    }
+}
+
+fn config_at(words: &[u32]) -> PreprocessingConfig
+    requires { ⌜ 25 ≤ length (now words) ⌝ }
+    ensures { λ r. ⌜ r ≡ configAt (now (words .entry)) ⌝ }
+{
+    PreprocessingConfig {
+        highpass_cutoff_hz: number_at(words, 0),
+        sample_rate_hz: words[1],
+        dc_bias_alpha: number_at(words, 2),
+        enable_dc_removal: words[3] == 1,
+        enable_highpass: words[4] == 1,
+        highpass_order: order(words[5] == 1),
+    }
+}
+
+fn filter_at(words: &[u32]) -> DcHighPassFilter
+    requires { ⌜ 25 ≤ length (now words) ⌝ }
+    ensures { λ r. ⌜ r ≡ filterAt (now (words .entry)) ⌝ }
+{
+    DcHighPassFilter {
+        config: config_at(words),
+        first: stage_at(words, 6),
+        second: stage_at(words, 15),
+        dc_bias: number_at(words, 24),
+    }
+}
+
+// The filter itself judges the numbers.
+fn well_formed(words: &[u32]) -> bool
+    ensures { λ r. ⌜ r ≡ readable (now (words .entry)) ⌝ }
+{
+    if words.len() < 25 {
+        return false;
+    }
+    if 1 < words[3] {
+        return false;
+    }
+    if 1 < words[4] {
+        return false;
+    }
+    words[5] <= 1
+}
+
+fn number_word(x: f32) -> u32
+    ensures { λ r. ⌜ r ≡ wordOf x ⌝ }
+{
+    if x != x {
+        return 0x7fc0_0000;
+    }
+    f32::to_bits(x)
+}
+
+fn flag_word(flag: bool) -> u32
+    ensures { λ r. ⌜ r ≡ flagWord flag ⌝ }
+{
+    if flag {
+        return 1;
+    }
+    0
+}
+
+fn order_word(order: HighpassOrder) -> u32
+    ensures { λ r. ⌜ r ≡ orderWord order ⌝ }
+{
+    match order {
+        HighpassOrder::SecondOrder => 0,
+        HighpassOrder::FourthOrder => 1,
+    }
+}
+
+fn put_word(words: &mut [u32], at: usize, word: u32)
+    requires { ⌜ at < length (now words) ⌝ }
+    ensures { λ _. ⌜ now (words .exit) ≡ set (now (words .entry)) at word ⌝ }
+{
+    words[at] = word;
+}
+
+fn put_number(words: &mut [u32], at: usize, x: f32)
+    requires { ⌜ at < length (now words) ⌝ }
+    ensures { λ _. ⌜ now (words .exit) ≡ set (now (words .entry)) at (wordOf x) ⌝ }
+{
+    put_word(words, at, number_word(x));
+}
+
+fn put_coefficients(words: &mut [u32], at: usize, c: BiquadCoefficients)
+    requires { ⌜ at + 5 ≤ length (now words) ⌝ }
+    ensures { λ _. ⌜ now (words .exit) ≡ sets (now (words .entry)) at (coefficientWords c) ⌝ }
+{
+    put_number(words, at, c.b0);
+    put_number(words, at + 1, c.b1);
+    put_number(words, at + 2, c.b2);
+    put_number(words, at + 3, c.a1);
+    put_number(words, at + 4, c.a2);
+}
+
+fn put_memory(words: &mut [u32], at: usize, s: BiquadState)
+    requires { ⌜ at + 4 ≤ length (now words) ⌝ }
+    ensures { λ _. ⌜ now (words .exit) ≡ sets (now (words .entry)) at (memoryWords s) ⌝ }
+{
+    put_number(words, at, s.x1);
+    put_number(words, at + 1, s.x2);
+    put_number(words, at + 2, s.y1);
+    put_number(words, at + 3, s.y2);
+}
+
+fn put_stage(words: &mut [u32], at: usize, stage: Biquad)
+    requires { ⌜ at + 9 ≤ length (now words) ⌝ }
+    ensures { λ _. ⌜ now (words .exit) ≡ sets (now (words .entry)) at (stageWords stage) ⌝ }
+{
+    let coeffs = stage.coeffs;
+    let state = stage.state;
+    put_coefficients(words, at, coeffs);
+    put_memory(words, at + 5, state);
+}
+
+fn put_config(words: &mut [u32], config: PreprocessingConfig)
+    requires { ⌜ 25 ≤ length (now words) ⌝ }
+    ensures { λ _. ⌜ now (words .exit) ≡ sets (now (words .entry)) 0 (configWords config) ⌝ }
+{
+    let order = config.highpass_order;
+    put_number(words, 0, config.highpass_cutoff_hz);
+    put_word(words, 1, config.sample_rate_hz);
+    put_number(words, 2, config.dc_bias_alpha);
+    put_word(words, 3, flag_word(config.enable_dc_removal));
+    put_word(words, 4, flag_word(config.enable_highpass));
+    put_word(words, 5, order_word(order));
+}
+
+fn put_filter(words: &mut [u32], filter: DcHighPassFilter)
+    requires { ⌜ 25 ≤ length (now words) ⌝ }
+    ensures { λ _. ⌜ now (words .exit) ≡ written filter (now (words .entry)) ⌝ }
+{
+    let config = filter.config;
+    let first = filter.first;
+    let second = filter.second;
+    put_config(words, config);
+    put_stage(words, 6, first);
+    put_stage(words, 15, second);
+    put_number(words, 24, filter.dc_bias);
+}
+
+fn answer(number: u32, carried: u32) -> u64
+    ensures { λ r. ⌜ r ≡ packed number carried ⌝ }
+{
+    (number as u64) + (carried as u64) * 0x1_0000_0000
+}
+
+fn five_at(xs: &[f32], at: usize) -> [f32; 5]
+    requires { ⌜ at + 5 ≤ length (now xs) ⌝ }
+    ensures { λ r. ⌜ r ≡ fiveAt (now (xs .entry)) at ⌝ }
+{
+    [xs[at], xs[at + 1], xs[at + 2], xs[at + 3], xs[at + 4]]
+}
+
+fn opened(config: PreprocessingConfig, coefficients: &[f32]) -> Opened
+    ensures { λ r. ⌜ r ≡ openedOf config (now (coefficients .entry)) ⌝ }
+{
+    if coefficients.len() < 10 {
+        return Opened {
+            refusal: 24,
+            filter: dc_highpass::nothing_open(),
+        };
+    }
+    let first = five_at(coefficients, 0);
+    let second = five_at(coefficients, 5);
+    dc_highpass::open(config, [first, second])
+}
+
+// The coefficients are ten numbers: b0, b1, b2, a1, a2 of one stage, then of the other.
+#[no_mangle]
+pub extern "C" fn fallowcart_filter_open(
+    highpass_cutoff_hz: f32,
+    sample_rate_hz: u32,
+    dc_bias_alpha: f32,
+    enable_dc_removal: bool,
+    enable_highpass: bool,
+    fourth_order: bool,
+    coefficients: &[f32],
+    state: &mut [u32],
+) -> u64
+    ensures { λ r. ⌜ r ≡ openAnswer (settings «highpass_cutoff_hz» «sample_rate_hz» «dc_bias_alpha» «enable_dc_removal» «enable_highpass» «fourth_order») (now (coefficients .entry)) (now (state .entry)) ⌝ }
+    ensures { λ _. ⌜ now (state .exit) ≡ openState (settings «highpass_cutoff_hz» «sample_rate_hz» «dc_bias_alpha» «enable_dc_removal» «enable_highpass» «fourth_order») (now (coefficients .entry)) (now (state .entry)) ⌝ }
+{
+    if state.len() < 25 {
+        return 27;
+    }
+    let config = PreprocessingConfig {
+        highpass_cutoff_hz,
+        sample_rate_hz,
+        dc_bias_alpha,
+        enable_dc_removal,
+        enable_highpass,
+        highpass_order: order(fourth_order),
+    };
+    let done = opened(config, coefficients);
+    let filter = done.filter;
+    put_filter(state, filter);
+    answer(done.refusal, 0)
+}
+
+fn label(has_context: bool, is_silence: bool) -> VadContext
+    ensures { λ r. ⌜ r ≡ labelOf «has_context» «is_silence» ⌝ }
+{
+    if !has_context {
+        return VadContext::Unlabelled;
+    }
+    if is_silence {
+        return VadContext::Silence;
+    }
+    VadContext::Speech
+}
+
+// Carries the sample's place with 16 and 26.
+#[no_mangle]
+pub extern "C" fn fallowcart_filter_process(
+    state: &mut [u32],
+    samples: &[f32],
+    has_context: bool,
+    is_silence: bool,
+    output: &mut [f32],
+) -> u64
+    ensures { λ r. ⌜ r ≡ processAnswer (now (state .entry)) (now (samples .entry)) (labelOf «has_context» «is_silence») (length (now (output .entry))) ⌝ }
+    ensures { λ _. ⌜ now (state .exit) ≡ processState (now (state .entry)) (now (samples .entry)) (labelOf «has_context» «is_silence») (length (now (output .entry))) ⌝ }
+    ensures { λ _. ⌜ now (output .exit) ≡ processOutput (now (state .entry)) (now (samples .entry)) (labelOf «has_context» «is_silence») (now (output .entry)) ⌝ }
+{
+    if !well_formed(state) {
+        return 27;
+    }
+    let context = label(has_context, is_silence);
+    let done = dc_highpass::process(filter_at(state), samples, context, output);
+    let refusal = done.refusal;
+    if refusal.number == 0 {
+        let filter = done.filter;
+        put_filter(state, filter);
+        return 0;
+    }
+    answer(refusal.number, refusal.place as u32)
+}
+
+#[no_mangle]
+pub extern "C" fn fallowcart_filter_reset(state: &mut [u32]) -> u64
+    ensures { λ r. ⌜ r ≡ resetAnswer (now (state .entry)) ⌝ }
+    ensures { λ _. ⌜ now (state .exit) ≡ resetState (now (state .entry)) ⌝ }
+{
+    if !well_formed(state) {
+        return 27;
+    }
+    let cleared = dc_highpass::reset(filter_at(state));
+    if cleared.refusal == 0 {
+        let filter = cleared.filter;
+        put_filter(state, filter);
+        return 0;
+    }
+    answer(cleared.refusal, 0)
+}
+
+// Carries the bias' bits.
+#[no_mangle]
+pub extern "C" fn fallowcart_filter_bias(state: &[u32]) -> u64
+    ensures { λ r. ⌜ r ≡ biasAnswer (now (state .entry)) ⌝ }
+{
+    if !well_formed(state) {
+        return 27;
+    }
+    let bias = dc_highpass::dc_bias(filter_at(state));
+    answer(bias.refusal, number_word(bias.value))
+}
