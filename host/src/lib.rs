@@ -1,9 +1,17 @@
 //! The hub's voice detector, proved in Rattle, for Rust.
 //!
 //! What is here calls the compiled library through its C door, and adds only the Rust types. No word of the door can break memory, so every function
-//! is safe. Today there are the arithmetic and the score; the detector and the filter come later.
+//! is safe. Today there are the arithmetic, the score, the [`Filter`] and the detector's settings; the detector comes later.
 
 mod door;
+mod filter;
+pub mod raw;
+mod refusal;
+mod settings;
+
+pub use filter::{Filter, HighpassOrder, PreprocessingConfig, VadContext};
+pub use refusal::Refusal;
+pub use settings::VadConfig;
 
 /// Arithmetic of `f32` that is rounded once, to the nearest number, ties to even. `None` stands for every answer that is not a finite number.
 pub mod float {

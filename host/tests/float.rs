@@ -9,23 +9,24 @@
 
 #[path = "float/cases.rs"]
 mod cases;
+#[path = "common/choose.rs"]
+mod choose;
 #[path = "float/exact.rs"]
 mod exact;
+#[path = "common/long.rs"]
+mod long;
 #[path = "common/random.rs"]
 mod random;
 
 use std::io::Write;
 use std::ops::AddAssign;
-use std::panic::resume_unwind;
-use std::sync::atomic::{AtomicU64, Ordering};
-use std::sync::{LazyLock, Mutex, PoisonError};
-use std::thread;
-use std::time::{Duration, Instant};
+use std::sync::LazyLock;
 
 use cases::{Family, compose, special};
 use exact::Place;
 use fallowcart::float::{mul_add, mul_add_bits, sqrt, sqrt_bits};
 use fallowcart::score;
+use long::long;
 use random::Random;
 
 /// a * b + c by the processor's instruction, `None` where there is none.
@@ -582,57 +583,6 @@ fn scores() {
         0x01a0_0000 / 1_021 + 1 + 3 * 1_025 + 60 + 65_535 + 1
     );
     assert!(seen.none > 40_000 && seen.full > 10_000);
-}
-
-/// Threads of a long run.
-const THREADS: usize = 2;
-
-/// One long run at a time, so that the time it took says something.
-static ALONE: Mutex<()> = Mutex::new(());
-
-/// Does the blocks 0..blocks on two threads, each with a tally of its own, and adds the tallies up.
-fn long<T: AddAssign + Default + Send>(
-    name: &str,
-    blocks: u64,
-    work: impl Fn(&mut T, u64) + Sync,
-) -> (T, Duration) {
-    /// A thread that fails takes the other's work away.
-    struct Stop<'a>(&'a AtomicU64);
-    impl Drop for Stop<'_> {
-        fn drop(&mut self) {
-            if thread::panicking() {
-                self.0.store(u64::MAX / 2, Ordering::Relaxed);
-            }
-        }
-    }
-
-    let _alone = ALONE.lock().unwrap_or_else(PoisonError::into_inner);
-    let (next, start) = (AtomicU64::new(0), Instant::now());
-    let thread = |first: bool| {
-        let (_stop, mut tally, mut said) = (Stop(&next), T::default(), Instant::now());
-        loop {
-            let block = next.fetch_add(1, Ordering::Relaxed);
-            if block >= blocks {
-                return tally;
-            }
-            work(&mut tally, block);
-            if first && said.elapsed() >= Duration::from_secs(10) {
-                said = Instant::now();
-                let (done, time) = (100 * block / blocks, start.elapsed().as_secs());
-                eprintln!("{name}: {done} % after {time} s");
-            }
-        }
-    };
-    let mut total = T::default();
-    thread::scope(|scope| {
-        let threads: Vec<_> = (0..THREADS)
-            .map(|n| scope.spawn(move || thread(n == 0)))
-            .collect();
-        for thread in threads {
-            total += thread.join().unwrap_or_else(|panic| resume_unwind(panic));
-        }
-    });
-    (total, start.elapsed())
 }
 
 /// Tallies by family.

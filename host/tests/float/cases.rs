@@ -3,22 +3,8 @@
 use crate::random::Random;
 
 impl Random {
-    /// A whole number from low to high, both included.
-    pub fn within(&mut self, low: i32, high: i32) -> i32 {
-        low + (self.word() % (high - low + 1) as u64) as i32
-    }
-
     fn sign(&mut self) -> u32 {
         (self.word() as u32) & SIGN
-    }
-
-    fn one_in(&mut self, many: u64) -> bool {
-        self.word().is_multiple_of(many)
-    }
-
-    /// One of these.
-    fn pick(&mut self, from: &[u32]) -> u32 {
-        from[self.word() as usize % from.len()]
     }
 
     /// A number of exactly this many binary digits that ends in 1.
