@@ -1,6 +1,6 @@
 //! The compiled filter against the original's, bit by bit, and every refusal of it against 01's words.
 //!
-//! The long run: `cargo test --release --offline --test filter -- --ignored --nocapture`.
+//! The long run: `tools/host test --release --test filter -- --ignored --nocapture`.
 
 #[path = "filter/cases.rs"]
 mod cases;

@@ -5,7 +5,7 @@
 //! told not to: with `GLIBC_TUNABLES=glibc.cpu.hwcaps=-FMA` it runs its own algorithm. The judges of a root: the processor's instruction, and whole
 //! numbers.
 //!
-//! The long runs: `cargo test --release --offline --test float -- --ignored --nocapture`.
+//! The long runs: `tools/host test --release --test float -- --ignored --nocapture`.
 
 #[path = "float/cases.rs"]
 mod cases;

@@ -1,7 +1,7 @@
 //! The compiled checks of the settings, and the numbers that follow from them, against the original's `validate`, `frame_length_samples` and
 //! `hop_length_samples`, and against the original's expressions for what it keeps to itself.
 //!
-//! The long run: `cargo test --release --offline --test settings -- --ignored --nocapture`.
+//! The long run: `tools/host test --release --test settings -- --ignored --nocapture`.
 
 #[path = "common/choose.rs"]
 mod choose;

@@ -1,6 +1,6 @@
 //! The compiled roundings to and from whole numbers against Rust's `round`, `ceil` and `as`.
 //!
-//! The long run, every f32: `cargo test --release --offline --test whole -- --ignored --nocapture`.
+//! The long run, every f32: `tools/host test --release --test whole -- --ignored --nocapture`.
 
 #[path = "common/random.rs"]
 mod random;
