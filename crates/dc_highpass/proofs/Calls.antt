@@ -16,7 +16,7 @@ use Rattle.dc_highpass.specs.Filter.{biasedOf, passOf, resultsOf, afterO
 use Rattle.dc_highpass.specs.declared.DcHighPassFilter.{DcHighPassFilter}
 use Rattle.dc_highpass.specs.declared.VadContext.{VadContext}
 use Rattle.dc_highpass.specs.declared.Refusal.{Refusal}
-use Rattle.dc_highpass.proofs.Turns.{sets-append, sets-all}
+use Rattle.lists.specs.Stores.{sets-append, sets-all}
 
 pub results-le : (f : DcHighPassFilter) (xs : List Float) → length (resultsOf f xs) ≤ length xs
 unfolding resultsOf

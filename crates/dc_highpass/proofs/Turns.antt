@@ -1,13 +1,13 @@
 -- One turn of each loop, over plain lists. Assumes nothing.
 use mathlib.Core.Path.{_≡_, refl, _∙_}
 use mathlib.Core.Bool.{true, false}
-use mathlib.Core.List.{List, [], _∷_, _++_}
+use mathlib.Core.List.{List, [], _∷_}
 use Prim.Native.Nat.{ℕ, suc, _+_, _-_, _≤_, _<_}
-use native.Mathlib.Nat.{zero-add, add-zero}
 use native.Mathlib.Numerals.{add-one}
 use native.Mathlib.Omega.{arith}
 use lib.ListN.{length, drop, set, getD, replicate, drop-of-length-le}
-use lib.Seq.{drop-cons, sets, sets-eq}
+use lib.Seq.{drop-cons, sets}
+use Rattle.lists.specs.Stores.{sets-cons}
 use lib.Ieee.{Float, nan, binary32, add}
 use lib.Ieee.Scale.{finite}
 use Rattle.dc_highpass.specs.Filter.{coefficientsOf, freshOf, nothingOpen, openOf, isEmpty, sumFrom, cleanOf, inDomain, passOf, resultsOf, afterOf}
@@ -68,21 +68,11 @@ module _ (i : ℕ) (xs : List Float) (h : i < length xs) where
 
 -- ---- what is written
 
-pub sets-cons : (l : List Float) (i : ℕ) (v : Float) (vs : List Float) → sets (set l i v) (i + 1) vs ≡ sets l i (v ∷ vs)
-sets-cons l i v vs = rw (add-one i)
-
 pub clear-step : (l : List Float) (i n : ℕ) (z : Float) → i < n → sets (set l i z) (i + 1) (replicate (n - (i + 1)) z) ≡ sets l i (replicate (n - i) z)
 clear-step l i n z h = let e : n - i ≡ suc (n - (i + 1)) = omega arith in sets-cons l i z (replicate (n - (i + 1)) z) ∙ rw e
 
 pub clear-end : (l : List Float) (i n : ℕ) (z : Float) → n ≤ i → sets l i (replicate (n - i) z) ≡ l
 clear-end l i n z h = let e : n - i ≡ 0 = omega arith in rw e
-
-pub sets-append : (l : List Float) (i : ℕ) (a b : List Float) → sets l i (a ++ b) ≡ sets (sets l i a) (i + length a) b
-sets-append l i [] b = rw (add-zero i)
-sets-append l i (x ∷ a) b = let e : i + suc (length a) ≡ suc i + length a = omega arith in rw e (sets-append (set l i x) (suc i) a b)
-
-pub sets-all : (l vs : List Float) → length vs ≤ length l → sets l 0 vs ≡ vs ++ drop (length vs) l
-sets-all l vs h = rw (sets-eq vs l 0 (omega arith), zero-add (length vs))
 
 -- ---- the block's length
 

@@ -1,21 +1,14 @@
 -- Words put one after the other are a list put at once. Assumes nothing.
 use mathlib.Core.Path.{_≡_, sym}
-use mathlib.Core.List.{List, [], _∷_, _++_}
+use mathlib.Core.List.{List, [], _∷_}
 use Prim.Native.Nat.{ℕ, suc, _+_, _≤_}
-use native.Mathlib.Nat.{zero-add, add-zero}
 use native.Mathlib.Omega.{arith}
-use lib.ListN.{length, drop, set}
-use lib.Seq.{sets, sets-eq}
+use lib.ListN.{length, set}
+use lib.Seq.{sets}
+use Rattle.lists.specs.Stores.{sets-append, sets-all}
 use Rattle.dc_highpass.specs.declared.biquad.Biquad.{Biquad}
 use Rattle.dc_highpass.specs.declared.DcHighPassFilter.{DcHighPassFilter}
 use Rattle.hub.specs.FilterState.{wordOf, configWords, coefficientWords, memoryWords, stageWords, wordsOf, written}
-
-sets-append : (l : List ℕ) (i : ℕ) (a b : List ℕ) → sets l i (a ++ b) ≡ sets (sets l i a) (i + length a) b
-sets-append l i [] b = rw (add-zero i)
-sets-append l i (x ∷ a) b = let e : i + suc (length a) ≡ suc i + length a = omega arith in rw e (sets-append (set l i x) (suc i) a b)
-
-sets-all : (l vs : List ℕ) → length vs ≤ length l → sets l 0 vs ≡ vs ++ drop (length vs) l
-sets-all l vs h = rw (sets-eq vs l 0 (omega arith), zero-add (length vs))
 
 module _ (l : List ℕ) (i a b c d : ℕ) where
   e1 : i + 1 ≡ suc i

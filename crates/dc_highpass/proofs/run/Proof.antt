@@ -4,10 +4,11 @@ use native.Mathlib.Omega.{arith}
 use lib.ListN.{length, drop, set, getD, length-set}
 use lib.Ieee.{nan}
 use lib.Seq.{sets}
+use Rattle.lists.specs.Stores.{sets-cons}
 use borrow.Author.Needs.{needs}
 use borrow.Author.Tests.{not-true, not-false}
 use Rattle.dc_highpass.specs.Filter.{passOf, resultsOf, afterOf}
-use Rattle.dc_highpass.proofs.Turns.{sets-cons, results-step, results-stop, results-end, after-step, after-stop, after-end}
+use Rattle.dc_highpass.proofs.Turns.{results-step, results-stop, results-end, after-step, after-stop, after-end}
 use Rattle.dc_highpass.proofs.run.Statement.{statement}
 use Rattle.dc_highpass.proofs.run.Tie as tie
 

@@ -1,0 +1,1 @@
+// No code: laws of lists that several crates use, in specs/.
