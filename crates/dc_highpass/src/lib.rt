@@ -65,7 +65,7 @@ pub struct Reading {
     pub value: f32,
 }
 
-struct Passed {
+pub struct Passed {
     pub filter: DcHighPassFilter,
     pub output: f32,
 }

@@ -2,3 +2,4 @@ pub mod Put
 pub mod Places
 pub mod Door
 pub mod RoundTrip
+pub mod Carried

@@ -1,4 +1,5 @@
-// The filter's door. The host keeps the state as words, so that nothing of it is private to this library.
+// The filter's door. The host keeps the state as words, 25 of them, whose layout specs/FilterState.antt says; every input is answered.
+// An answer is the refusal's number, 0 for none, and above its 32 bits what it carries.
 ghost use mathlib.Core.Path.{_≡_};
 ghost use Prim.Native.Nat.{_+_, _≤_, _<_};
 ghost use lib.ListN.{length, set};
@@ -91,7 +92,7 @@ fn filter_at(words: &[u32]) -> DcHighPassFilter
     }
 }
 
-// The filter itself judges the numbers.
+// Long enough, and each flag 0 or 1: without this two different states would be read as one. The filter itself judges the numbers.
 fn well_formed(words: &[u32]) -> bool
     ensures { λ r. ⌜ r ≡ readable (now (words .entry)) ⌝ }
 {
@@ -107,6 +108,7 @@ fn well_formed(words: &[u32]) -> bool
     words[5] <= 1
 }
 
+// One word for every NaN, whose bits the compiled code doesn't fix.
 fn number_word(x: f32) -> u32
     ensures { λ r. ⌜ r ≡ wordOf x ⌝ }
 {
@@ -218,6 +220,7 @@ fn five_at(xs: &[f32], at: usize) -> [f32; 5]
     [xs[at], xs[at + 1], xs[at + 2], xs[at + 3], xs[at + 4]]
 }
 
+// A slice that is too short has no coefficients to read: refused as they would be.
 fn opened(config: PreprocessingConfig, coefficients: &[f32]) -> Opened
     ensures { λ r. ⌜ r ≡ openedOf config (now (coefficients .entry)) ⌝ }
 {
@@ -232,7 +235,8 @@ fn opened(config: PreprocessingConfig, coefficients: &[f32]) -> Opened
     dc_highpass::open(config, [first, second])
 }
 
-// The coefficients are ten numbers: b0, b1, b2, a1, a2 of one stage, then of the other.
+// The coefficients are ten numbers: b0, b1, b2, a1, a2 of one stage, then of the other. A refused opening leaves 25 zeros;
+// a state that is too short is left as it is.
 #[no_mangle]
 pub extern "C" fn fallowcart_filter_open(
     highpass_cutoff_hz: f32,
@@ -264,6 +268,7 @@ pub extern "C" fn fallowcart_filter_open(
     answer(done.refusal, 0)
 }
 
+// The Rust's `Option<VadContext>`.
 fn label(has_context: bool, is_silence: bool) -> VadContext
     ensures { λ r. ⌜ r ≡ labelOf «has_context» «is_silence» ⌝ }
 {
@@ -276,7 +281,7 @@ fn label(has_context: bool, is_silence: bool) -> VadContext
     VadContext::Speech
 }
 
-// Carries the sample's place with 16 and 26.
+// Carries the sample's place with 16 and 26. A refusal writes no state.
 #[no_mangle]
 pub extern "C" fn fallowcart_filter_process(
     state: &mut [u32],
@@ -303,6 +308,7 @@ pub extern "C" fn fallowcart_filter_process(
     answer(refusal.number, refusal.place as u32)
 }
 
+// A refusal writes nothing.
 #[no_mangle]
 pub extern "C" fn fallowcart_filter_reset(state: &mut [u32]) -> u64
     ensures { λ r. ⌜ r ≡ resetAnswer (now (state .entry)) ⌝ }

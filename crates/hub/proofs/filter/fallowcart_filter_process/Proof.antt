@@ -1,14 +1,13 @@
-use native.Mathlib.Omega.{arith}
-use mathlib.Core.Path.{subst}
+use mathlib.Core.Path.{sym, subst, _∙_}
 use Prim.Native.Nat.{_≤_}
 use native.Mathlib.Nat.{lt-of-le-of-lt}
+use native.Mathlib.Omega.{arith}
 use lib.Dec.{lit≤}
-use Rattle.dc_highpass.specs.declared.Processed.{Processed}
 use lib.ListN.{length}
+use borrow.Author.Tests.{not-true, not-false}
+use Rattle.dc_highpass.specs.declared.Processed.{Processed}
 use Rattle.hub.specs.FilterDoor.{labelOf}
 use Rattle.hub.proofs.Places.{place-small}
-use mathlib.Core.Path.{sym, _∙_}
-use borrow.Author.Tests.{not-true, not-false}
 use Rattle.hub.proofs.Door.{long-of, process-unread, output-unread, output-read, process-done, process-refused}
 use borrow.Author.Needs.{needs}
 use Rattle.hub.proofs.filter.fallowcart_filter_process.Statement.{statement}
