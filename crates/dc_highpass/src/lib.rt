@@ -50,26 +50,31 @@ pub struct Refusal {
     pub place: usize,
 }
 
+// What opening and reset answer: 0 or the refusal's number, and the state.
 pub struct Opened {
     pub refusal: u32,
     pub filter: DcHighPassFilter,
 }
 
+// What a block's call answers: the state is a new one only where nothing was refused.
 pub struct Processed {
     pub refusal: Refusal,
     pub filter: DcHighPassFilter,
 }
 
+// A number read from a state, with 0 or the refusal's number.
 pub struct Reading {
     pub refusal: u32,
     pub value: f32,
 }
 
+// The filter after one sample, and the sample's result, which need not be finite.
 pub struct Passed {
     pub filter: DcHighPassFilter,
     pub output: f32,
 }
 
+// How many samples of a block had a result, and the filter after them.
 struct Ran {
     pub filter: DcHighPassFilter,
     pub count: usize,
