@@ -3,6 +3,8 @@
 //! Both sides get the same blocks, and keep their memory from block to block. The port's figure holds the door's call and the checks of its state and of
 //! the block; the original's holds the vector that it makes for each block. Rounds alternate between the two sides, and the median round counts.
 
+#[path = "../tests/common/for_original.rs"]
+mod for_original;
 #[path = "../tests/common/random.rs"]
 mod random;
 
@@ -11,6 +13,7 @@ use std::hint::black_box;
 use std::time::Instant;
 
 use fallowcart::{Filter, HighpassOrder, PreprocessingConfig};
+use for_original::for_original;
 use random::Random;
 use speech_prep::preprocessing as original;
 
@@ -35,18 +38,8 @@ fn median(mut rounds: Vec<f64>) -> f64 {
 fn compare(name: &str, config: PreprocessingConfig, sound: &[f32], block: usize) {
     let mut port = Filter::new(config).expect("the settings are accepted");
     let mut output = vec![0.0; block];
-    let mut judge = original::DcHighPassFilter::new(original::PreprocessingConfig {
-        highpass_cutoff_hz: config.highpass_cutoff_hz,
-        sample_rate_hz: config.sample_rate_hz,
-        dc_bias_alpha: config.dc_bias_alpha,
-        enable_dc_removal: config.enable_dc_removal,
-        enable_highpass: config.enable_highpass,
-        highpass_order: match config.highpass_order {
-            HighpassOrder::SecondOrder => original::HighpassOrder::SecondOrder,
-            HighpassOrder::FourthOrder => original::HighpassOrder::FourthOrder,
-        },
-    })
-    .expect("the settings are accepted");
+    let mut judge =
+        original::DcHighPassFilter::new(for_original(config)).expect("the settings are accepted");
 
     let (mut ports, mut originals) = (Vec::new(), Vec::new());
     // The first round only warms up.

@@ -6,6 +6,8 @@
 mod cases;
 #[path = "common/choose.rs"]
 mod choose;
+#[path = "common/for_original.rs"]
+mod for_original;
 #[path = "filter/judge.rs"]
 mod judge;
 #[path = "common/long.rs"]
@@ -18,6 +20,7 @@ use std::ops::{AddAssign, Index, IndexMut};
 
 use cases::{COMMON_RATES, Cutting, FULL, LONGEST, Sound, below, power};
 use fallowcart::{Filter, HighpassOrder, PreprocessingConfig, Refusal, VadContext, raw};
+use for_original::for_original;
 use judge::{BIAS, HIGHPASS, NAMES, ORDER, Operation, RANGES, REMOVAL, STAGES, State};
 use long::long;
 use random::Random;
@@ -130,7 +133,7 @@ struct Sides {
 impl Sides {
     /// `None` where the formulas miss 24's ranges, which the port has to notice.
     fn open(config: PreprocessingConfig) -> Option<Sides> {
-        let original = original::DcHighPassFilter::new(judge::for_original(config))
+        let original = original::DcHighPassFilter::new(for_original(config))
             .expect("the original has no refusal 24");
         let coefficients = config.coefficients();
         let port = match (judge::opening(config, coefficients), Filter::new(config)) {
@@ -403,7 +406,7 @@ fn mixtures() {
 
 #[test]
 fn the_defaults_are_the_originals() {
-    let ours = judge::for_original(PreprocessingConfig::default());
+    let ours = for_original(PreprocessingConfig::default());
     let original = original::PreprocessingConfig::default();
     assert_eq!(format!("{ours:?}"), format!("{original:?}"));
 }
@@ -627,7 +630,7 @@ fn openings() {
                     met[refusal as usize] += 1;
                     // The original checks the same but for the coefficients, and has a wider domain of rates.
                     if refusal != 20 {
-                        let valid = judge::for_original(config).validate().is_ok();
+                        let valid = for_original(config).validate().is_ok();
                         assert_eq!(valid, matches!(refusal, 0 | 24), "{config:?}");
                     }
                 }

@@ -3,7 +3,6 @@
 //! The original keeps its memory to itself and takes no coefficients. This judge takes any state, as words; the runs hold it to the original.
 
 use fallowcart::{Filter, HighpassOrder, PreprocessingConfig};
-use speech_prep::preprocessing as original;
 
 pub type State = [u32; Filter::STATE_WORDS];
 
@@ -187,20 +186,5 @@ pub fn process(mut state: State, samples: &[f32], is_silence: Option<bool>) -> P
     Processed {
         output,
         end: Ok(state),
-    }
-}
-
-/// The same settings for the original.
-pub fn for_original(config: PreprocessingConfig) -> original::PreprocessingConfig {
-    original::PreprocessingConfig {
-        highpass_cutoff_hz: config.highpass_cutoff_hz,
-        sample_rate_hz: config.sample_rate_hz,
-        dc_bias_alpha: config.dc_bias_alpha,
-        enable_dc_removal: config.enable_dc_removal,
-        enable_highpass: config.enable_highpass,
-        highpass_order: match config.highpass_order {
-            HighpassOrder::SecondOrder => original::HighpassOrder::SecondOrder,
-            HighpassOrder::FourthOrder => original::HighpassOrder::FourthOrder,
-        },
     }
 }
