@@ -19,7 +19,7 @@ use lib.Ieee.Positive.{num, den, positive, den-pos, own-value, value-pos, first-
 use borrow.Author.Tests.{ne-eqb, le-ltb}
 use Rattle.float.specs.declared.Rounded.{Rounded}
 use Rattle.float.specs.declared.Rounded.the-variants.{Finite, Nothing}
-use Rattle.float.specs.Finite.{rounded}
+use Rattle.float.specs.Finite.{rounded, orZero}
 use Rattle.float.specs.Inside.{magOf, negOf}
 use Rattle.float.specs.Nearest.{notNegative}
 use Rattle.float.specs.Fused.{fusedOf}
@@ -336,7 +336,7 @@ absorbed = (refl, refl)
 pub absorb-low : (x y : Float) → Low x (2 ^ 60) 1 → Low y (2 ^ 17) 1 → Low (add binary32 x y) (2 ^ 60) 1
 absorb-low x y h g = add-low binary32 x y (2 ^ 60) 1 (2 ^ 17) 1 (2 ^ 60 + 2 ^ 17) 1 (lit< tt) (lit< tt) (lit< tt) (2 ^ 60) 1 absorbed h g (lit≤ tt)
 
-neg-mag : (x : Float) (n d : ℕ) → Mag x n d → Mag (neg x) n d
+pub neg-mag : (x : Float) (n d : ℕ) → Mag x n d → Mag (neg x) n d
 unfolding neg
 neg-mag nan n d h = h
 neg-mag (inf s) n d h = h
@@ -404,6 +404,14 @@ div-whole-low f x y c n k C K H v h = div-low f x y (c * n) k c 1 n k K C K H h 
 -- ---- a result that is a number: it fits, and P holds of it
 abbrev pub Yields : Rounded → (Float → Type 0) → Type 0
 Yields r P = (v : Float) × (r ≡ Finite v) × T (fits binary32 v) × P v
+
+-- such a number stands for itself
+pub found : (r : Rounded) (P : Float → Type 0) → Yields r P → P (orZero r)
+found r P y = subst P (sym (ap orZero (y .1))) (y .3)
+
+-- and is an f32
+pub found-fits : (r : Rounded) (P : Float → Type 0) → Yields r P → T (fits binary32 (orZero r))
+found-fits r P y = subst (λ (v : Float). T (fits binary32 v)) (sym (ap orZero (y .1))) (y .2)
 
 yields : (x : Float) (P : Float → Type 0) → T (finite x) → T (fits binary32 x) → P x → Yields (rounded x) P
 yields nan P t u p = absurd t

@@ -7,7 +7,7 @@ mod rounding;
 pub mod whole;
 
 ghost use mathlib.Core.Path.{_≡_};
-ghost use lib.Ieee.{binary32, ofBits};
+ghost use lib.Ieee.{binary32, ofBits, toBits};
 ghost use lib.Ieee.Scale.{finite};
 ghost use Rattle.float.specs.Finite.{orZero};
 ghost use Rattle.float.specs.Fused.{fusedOf};
@@ -45,6 +45,16 @@ pub fn from_bits(bits: u32) -> f32
         return f32::from_bits(bits);
     }
     0.0 / 0.0
+}
+
+// The pattern of a float; a NaN's is 0x7fc0_0000.
+pub fn to_bits(x: f32) -> u32
+    ensures { λ r. ⌜ r ≡ toBits binary32 x ⌝ }
+{
+    if x != x {
+        return 0x7fc0_0000;
+    }
+    f32::to_bits(x)
 }
 
 // a * b + c, rounded once. There is none where an operand is not finite, or where the rounded result overflows.

@@ -1,0 +1,36 @@
+-- A fact of every element of a list, and `map` over a list in parts. Theorems only; assumes nothing.
+use mathlib.Core.Path.{_≡_, refl, ap}
+use mathlib.Core.List.{List, [], _∷_, _++_, map}
+use Prim.Native.Nat.{ℕ, zero, suc}
+use lib.ListN.{length, take, drop}
+
+module _ {A : Type 0} where
+  abbrev pub Every : (A → Type 0) → List A → Type 0
+  Every P [] = Unit {0}
+  Every P (x ∷ xs) = P x × Every P xs
+
+  module _ (P : A → Type 0) where
+    -- of two lists in a row
+    pub every-append : (xs ys : List A) → Every P xs → Every P ys → Every P (xs ++ ys)
+    every-append [] ys h g = g
+    every-append (x ∷ xs) ys h g = (h .0, every-append xs ys (h .1) g)
+
+    -- of a part
+    pub every-take : (n : ℕ) (xs : List A) → Every P xs → Every P (take n xs)
+    every-take zero xs h = tt
+    every-take (suc n) [] h = tt
+    every-take (suc n) (x ∷ xs) h = (h .0, every-take n xs (h .1))
+
+    pub every-drop : (n : ℕ) (xs : List A) → Every P xs → Every P (drop n xs)
+    every-drop zero xs h = h
+    every-drop (suc n) [] h = h
+    every-drop (suc n) (x ∷ xs) h = every-drop n xs (h .1)
+
+module _ {A B : Type 0} (f : A → B) where
+  pub length-map : (xs : List A) → length (map f xs) ≡ length xs
+  length-map [] = refl
+  length-map (x ∷ xs) = ap suc (length-map xs)
+
+  pub map-append : (xs ys : List A) → map f (xs ++ ys) ≡ map f xs ++ map f ys
+  map-append [] ys = refl
+  map-append (x ∷ xs) ys = ap (λ (zs : List B). f x ∷ zs) (map-append xs ys)

@@ -1,0 +1,3 @@
+pub mod Emphasis
+pub mod Energy
+pub mod Grid
