@@ -6,10 +6,13 @@ use Prim.Native.Nat.{ℕ}
 use lib.Seq.{sets}
 use lib.Ieee.{Float}
 use Rattle.float.proofs.Unique.{only}
-use Rattle.vad_frames.specs.Emphasis.{emphasized, lastOf}
+use Rattle.vad_frames.specs.Emphasis.{coefficientOf, emphasized, lastOf}
 use Rattle.vad_frames.specs.Energy.{energyOf}
 use Rattle.vad_frames.specs.Grid.{energiesOf, framedOf}
 use Rattle.vad_frames.specs.declared.Framed.{Framed}
+
+pub coefficient-unique : (present : Bool) (a r q : Float) → r ≡ coefficientOf present a → q ≡ coefficientOf present a → r ≡ q
+coefficient-unique present a r q = only
 
 -- the last sample, and what stands in the lent slice
 pub pre-emphasize-unique : (a p : Float) (xs values : List Float) (r q : Float) (y z : List Float) → (r ≡ lastOf p xs) × (y ≡ sets values 0 (emphasized a p xs)) → (q ≡ lastOf p xs) × (z ≡ sets values 0 (emphasized a p xs)) → (r ≡ q) × (y ≡ z)

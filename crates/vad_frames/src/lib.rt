@@ -3,7 +3,7 @@ ghost use mathlib.Core.Path.{_≡_};
 ghost use Prim.Native.Nat.{_≤_, min};
 ghost use lib.ListN.{length};
 ghost use lib.Seq.{sets};
-ghost use Rattle.vad_frames.specs.Emphasis.{emphasizedOf, emphasized, lastOf};
+ghost use Rattle.vad_frames.specs.Emphasis.{coefficientOf, emphasizedOf, emphasized, lastOf};
 ghost use Rattle.vad_frames.specs.Energy.{zero, squaresFrom, energyOf};
 ghost use Rattle.vad_frames.specs.Grid.{taken, framesOf, energiesOf, framedOf};
 
@@ -11,6 +11,16 @@ ghost use Rattle.vad_frames.specs.Grid.{taken, framesOf, energiesOf, fra
 pub struct Framed {
     pub frames: usize,
     pub consumed: usize,
+}
+
+// How much of the previous sample is taken off: none where there is no pre-emphasis.
+pub fn coefficient(has_pre_emphasis: bool, pre_emphasis: f32) -> f32
+    ensures { λ r. ⌜ r ≡ coefficientOf «has_pre_emphasis» «pre_emphasis» ⌝ }
+{
+    if has_pre_emphasis {
+        return pre_emphasis;
+    }
+    0.0
 }
 
 fn emphasize(coeff: f32, previous: f32, sample: f32) -> f32
