@@ -1,7 +1,7 @@
 -- Two magnitudes brought to one place, the smaller place's digits cut off into a sticky digit: their rounded sum or difference is that of the words.
 use mathlib.Core.Path.{_≡_, refl, sym, ap, ap₂, _∙_, subst}
 use mathlib.Core.Logic.{_⊎_, inl, inr}
-use Prim.Native.Nat.{ℕ, suc, _+_, _-_, _*_, _/_, _^_, _≤_, _<_}
+use Prim.Native.Nat.{ℕ, zero, suc, _+_, _-_, _*_, _/_, _^_, _≤_, _<_}
 use native.Mathlib.Nat.{le-trans, le-of-eq, le-of-lt, lt-of-lt-of-le, lt-of-le-of-lt, add-comm, mul-comm, mul-assoc, mul-one, suc-mul, add-mul, mul-sub, mul-le-mul-left, mul-le-mul-right, mul-lt-mul-of-pos-right, lt-of-mul-lt-mul-right, le-of-mul-le-mul-right}
 use native.Mathlib.Omega.{arith}
 use mathlib.Core.Bool.{Bool, true, false, not, _&&_, Bool·beq, cond}
@@ -22,6 +22,14 @@ sum-is f s a t b c = go (Bool·beq s t) (ltb a b)
     go true false = refl
     go false true = refl
     go false false = refl
+
+-- beside a number of the sign +, −0 does what +0 does
+pub sum-minus-zero : (f : Format) (b c : ℕ) → sum f true 0 false b c ≡ sum f false 0 false b c
+unfolding sum
+sum-minus-zero f zero c = refl
+sum-minus-zero f (suc b) c =
+    let e : suc b - 0 ≡ 0 + suc b = omega arith in
+    ap (λ (z : Bool). cond z (round f false (suc b - 0) c) (round f (ltb (suc b) 0) (0 - suc b) c)) (lt-ltb 0 (suc b) (omega arith)) ∙ ap (λ (n : ℕ). round f false n c) e
 
 -- ---- the order of two numbers is that of any multiples of them
 same-sum : (f : Format) (s : Bool) (t : Bool) (a b c a' b' c' : ℕ)

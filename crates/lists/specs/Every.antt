@@ -26,6 +26,21 @@ module _ {A : Type 0} where
     every-drop (suc n) [] h = h
     every-drop (suc n) (x ∷ xs) h = every-drop n xs (h .1)
 
+  -- a weaker fact
+  pub every-map : (P Q : A → Type 0) → ((x : A) → P x → Q x) → (xs : List A) → Every P xs → Every Q xs
+  every-map P Q f [] h = tt
+  every-map P Q f (x ∷ xs) h = (f x (h .0), every-map P Q f xs (h .1))
+
+  -- two facts
+  pub every-both : (P Q : A → Type 0) (xs : List A) → Every P xs → Every Q xs → Every (λ x. P x × Q x) xs
+  every-both P Q [] h g = tt
+  every-both P Q (x ∷ xs) h g = ((h .0, g .0), every-both P Q xs (h .1) (g .1))
+
+  -- a fact of everything
+  pub every-all : (P : A → Type 0) → ((x : A) → P x) → (xs : List A) → Every P xs
+  every-all P f [] = tt
+  every-all P f (x ∷ xs) = (f x, every-all P f xs)
+
 module _ {A B : Type 0} (f : A → B) where
   pub length-map : (xs : List A) → length (map f xs) ≡ length xs
   length-map [] = refl

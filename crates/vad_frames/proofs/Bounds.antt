@@ -5,16 +5,15 @@ use mathlib.Core.List.{List, [], _∷_, map}
 use Prim.Native.Nat.{ℕ, zero, suc, _+_, _-_, _*_, _≤_, _<_}
 use native.Mathlib.Nat.{zero-mul, add-zero}
 use native.Mathlib.Omega.{arith}
-use lib.Dec.{T, ltb, lit≤, lit<}
+use lib.Dec.{T, lit≤, lit<}
 use lib.IntN.{pos}
 use lib.ListN.{length, take, length-take}
-use lib.Ieee.{Float, nan, inf, fin, Format, binary32, fits, up, down, ofBits, ofInt, neg, add, mul, sum, round}
+use lib.Ieee.{Float, nan, inf, fin, binary32, fits, up, down, ofBits, ofInt, neg, add, mul, sum, round}
 use lib.Ieee.Fits.{div-fits}
-use borrow.Author.Tests.{lt-ltb}
 use Rattle.lists.specs.Every.{Every, every-take}
 use Rattle.float.specs.Fused.{fusedOf}
 use Rattle.float.specs.Root.{rootOf}
-use Rattle.float.proofs.Align.{sum-is}
+use Rattle.float.proofs.Align.{sum-minus-zero}
 use Rattle.float.proofs.Bounds.{Mag, Low, Yields, held-small, held-scaled, low-wider, mul-weight, square-low, add-low, div-whole-low, fused-weight, root-low, neg-mag, found, found-fits}
 use Rattle.vad_frames.specs.Emphasis.{emphasizedOf, emphasized, lastOf}
 use Rattle.vad_frames.specs.Energy.{zero as +0, squareOf, squaresFrom, meanSquareOf, energyOf}
@@ -113,15 +112,6 @@ module _ (window : List Float) (w : Every (λ v. Mag v 1 1) window) (l : 1 ≤ l
   energies-fit finish hop xs h = each-from (λ e. T (fits binary32 e)) energy-fits finish hop 0 xs h
 
 -- ---- the zero that a sum of squares begins from
-zeros : (f : Format) (b c : ℕ) → sum f true 0 false b c ≡ sum f false 0 false b c
-zeros f zero c = sum-is f true 0 false 0 c ∙ sym (sum-is f false 0 false 0 c)
-zeros f (suc b) c =
-    let n : suc b - 0 ≡ 0 + suc b = omega arith in
-    sum-is f true 0 false (suc b) c
-    ∙ ap (λ (t : Bool). round f (cond t false (ltb (suc b) 0)) (cond t (suc b - 0) (0 - suc b)) c) (lt-ltb 0 (suc b) (omega arith))
-    ∙ ap (λ (k : ℕ). round f false k c) n
-    ∙ sym (sum-is f false 0 false (suc b) c)
-
 -- −0 and +0 and a square give the same
 zero-add-low : (y : Float) (n d : ℕ) → Low y n d → add binary32 (neg +0) y ≡ add binary32 +0 y
 unfolding add neg ofBits
@@ -130,7 +120,7 @@ zero-add-low (inf s) n d h = absurd h
 zero-add-low (fin true m e) n d h = absurd h
 zero-add-low (fin false m e) n d h =
     let begun : Bool → ℕ → Float = λ t k. sum binary32 t k false (m * up e * 1) (1 * down e) in
-    ap (begun true) (zero-mul (down e)) ∙ zeros binary32 (m * up e * 1) (1 * down e) ∙ sym (ap (begun false) (zero-mul (down e)))
+    ap (begun true) (zero-mul (down e)) ∙ sum-minus-zero binary32 (m * up e * 1) (1 * down e) ∙ sym (ap (begun false) (zero-mul (down e)))
 
 -- so the Rust's −0 gives the sum that +0 gives
 pub either-zero : (x w : Float) (xs ws : List Float) (n d : ℕ) → Low (squareOf x w) n d → squaresFrom (neg +0) (x ∷ xs) (w ∷ ws) ≡ squaresFrom +0 (x ∷ xs) (w ∷ ws)

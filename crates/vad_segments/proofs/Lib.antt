@@ -1,0 +1,9 @@
+pub mod Laws
+pub mod Rooms
+pub mod Turns
+pub mod Calls
+pub mod Ordered
+pub mod Counts
+pub mod Floor
+pub mod Examples
+pub mod Unique

@@ -1,0 +1,26 @@
+use native.Mathlib.Omega.{arith}
+use Rattle.vad_segments.specs.Judging.{framesAt}
+use Rattle.vad_segments.proofs.Rooms.{track-within}
+use Rattle.vad_segments.proofs.Calls.{classified-is}
+use borrow.Author.Needs.{needs}
+use Rattle.vad_segments.proofs.classify.Statement.{statement}
+use Rattle.vad_segments.proofs.classify.Tie as tie
+
+pass-requires : tie.Need-pass-requires
+pass-requires c κs = search needs
+
+ended-requires : tie.Need-ended-requires
+ended-requires c κs =
+    let s = c .before .before in
+    let room = track-within (s .args .rules) (s .args .received) (s .pre .1 .0) (s .pre .0 .0) (s .args .energies .now) 0 (s .args .first) (s .args .track) (omega arith) (omega arith, s .pre .0 .1) in
+    (s .pre .0 .0, rw (c .pass .ensures .0) room, omega arith)
+
+returns : tie.Need-returns
+returns c =
+    let s = c .before .before .before .before in
+    let passed = c .before .before .pass in
+    let end = c .before .ended in
+    classified-is (s .args .finish) (s .args .rules) (s .args .received) (s .args .track) (framesAt (s .args .rules .lengths) (s .args .received) (s .args .first) (s .args .energies .now)) (passed .result .track) (passed .ensures .0) (end .result) (end .ensures) (passed .result .loud) (passed .ensures .1)
+
+pub classify-spec : {M : Type 1} → statement M
+classify-spec = tie.close (tie.spec pass-requires ended-requires returns)

@@ -1,0 +1,4 @@
+pub mod Loudness
+pub mod Closing
+pub mod Judging
+pub mod Rooms

@@ -1,0 +1,260 @@
+// Frames judged and segments closed: `classify` and `finalize_segment` of the Rust's src/vad/detector.rs. What judging changes is a `Track`, passed in and returned; rows are lent.
+pub mod closing;
+pub mod judging;
+pub mod loudness;
+pub mod order;
+
+ghost use mathlib.Core.Path.{_≡_};
+ghost use mathlib.Core.Bool.{cond};
+ghost use Prim.Native.Nat.{_+_, _≤_, _^_};
+ghost use lib.ListN.{length};
+ghost use lib.Seq.{sets};
+ghost use Rattle.vad_segments.specs.Closing.{flat, fieldsOf, reported};
+ghost use Rattle.vad_segments.specs.Judging.{frameAt, framesAt, trackAfter, rowsOf, loudsOf, countOf, callRows, classifiedOf};
+ghost use Rattle.vad_segments.specs.Rooms.{LengthsWithin, Within};
+use closing::ended;
+use judging::judge;
+use vad_config::Lengths;
+use vad_config::VadConfig;
+
+// What opening fixed: the settings, the lengths worked out from them, and the weight that the host handed in.
+pub struct Rules {
+    pub config: VadConfig,
+    pub lengths: Lengths,
+    pub speech_floor_rise: f32,
+}
+
+// One analysis frame: where it begins and ends in the stream, and its energy.
+pub struct FrameMetrics {
+    pub start_sample: u64,
+    pub end_sample: u64,
+    pub energy: f32,
+}
+
+pub struct ActiveSegmentState {
+    pub start_sample: u64,
+    // End of the last loud frame.
+    pub last_end_sample: u64,
+    pub score_total: u64,
+    pub energy_sum: f32,
+    // Loud frames; those of the hangover are not counted.
+    pub frame_count: u64,
+    // Quiet frames since the last loud one.
+    pub silence_run: u64,
+}
+
+// The Rust's `Option<ActiveSegmentState>`.
+pub enum ActiveSegment {
+    Closed,
+    Open(ActiveSegmentState),
+}
+
+// What judging changes. The last two are over all rows since the opening or the latest reset.
+pub struct Track {
+    pub noise_floor: f32,
+    // End of the last closed segment; new segments start at or after it.
+    pub last_segment_end: u64,
+    pub rows_reported: u64,
+    pub talk_samples: u64,
+    pub active_segment: ActiveSegment,
+}
+
+// A row; `avg_energy` is the f32's bits.
+pub struct SpeechChunk {
+    pub start_sample: u64,
+    pub end_sample: u64,
+    pub start_time: u64,
+    pub end_time: u64,
+    pub score_total: u64,
+    pub frame_count: u64,
+    pub avg_energy: u64,
+}
+
+pub enum Report {
+    NoRow,
+    Row(SpeechChunk),
+}
+
+// A segment closed: the new last segment end, and the row if it was not dropped.
+pub struct Finalized {
+    pub end: u64,
+    pub report: Report,
+}
+
+// The track after a frame, the row if one closed, and whether the frame was loud.
+pub struct Judged {
+    pub track: Track,
+    pub report: Report,
+    pub loud: bool,
+}
+
+// The track after a call's frames, and how many of them were loud.
+pub struct Classified {
+    pub track: Track,
+    pub loud: usize,
+}
+
+// The track after the frames whose rows were written, and the place after the rows.
+pub struct Written {
+    pub track: Track,
+    pub end: usize,
+}
+
+// A short frame ends where the sound received ends.
+fn frame_at(lengths: Lengths, received: u64, start: u64, energy: f32) -> FrameMetrics
+    requires { ⌜ (lengths .«frame_length» ≤ 65536) × (start ≤ 2 ^ 42) ⌝ }
+    ensures { λ r. ⌜ r ≡ frameAt lengths received start energy ⌝ }
+{
+    FrameMetrics {
+        start_sample: start,
+        end_sample: order::lesser(start + lengths.frame_length as u64, received),
+        energy,
+    }
+}
+
+fn one_more(count: usize, loud: bool) -> usize
+    requires { ⌜ count ≤ 1024 ⌝ }
+    ensures { λ r. ⌜ r ≡ count + cond loud 1 0 ⌝ }
+{
+    if loud {
+        return count + 1;
+    }
+    count
+}
+
+// The frames in order, without their rows.
+fn pass(rules: Rules, received: u64, track: Track, first: u64, energies: &[f32]) -> Classified
+    requires { ⌜ LengthsWithin (rules .lengths) × Within (2 ^ 41) (2 ^ 60) track ⌝ }
+    requires { ⌜ (received ≤ 2 ^ 41) × (first ≤ 2 ^ 41) × (length (now energies) ≤ 1024) ⌝ }
+    ensures { λ r. ⌜ r .track ≡ trackAfter rules received track (framesAt (rules .lengths) received first (now (energies .entry))) ⌝ }
+    ensures { λ r. ⌜ r .loud ≡ countOf (loudsOf rules received track (framesAt (rules .lengths) received first (now (energies .entry)))) ⌝ }
+{
+    let lengths = rules.lengths;
+    let mut t = track;
+    let mut loud = 0;
+    let mut start = first;
+    let mut i = 0;
+    while i < energies.len() {
+        let judged = judge(
+            rules,
+            received,
+            t,
+            frame_at(lengths, received, start, energies[i]),
+        );
+        loud = one_more(loud, judged.loud);
+        t = judged.track;
+        start += lengths.hop_length as u64;
+        i += 1;
+    }
+    Classified { track: t, loud }
+}
+
+// A call's frames judged one after the other, the first of them at `first`; with `finish` the open segment is closed after them.
+pub fn classify(
+    rules: Rules,
+    received: u64,
+    track: Track,
+    first: u64,
+    energies: &[f32],
+    finish: bool,
+) -> Classified
+    requires { ⌜ LengthsWithin (rules .lengths) × Within (2 ^ 41) (2 ^ 60) track ⌝ }
+    requires { ⌜ (received ≤ 2 ^ 41) × (first ≤ 2 ^ 41) × (length (now energies) ≤ 1024) ⌝ }
+    ensures { λ r. ⌜ r ≡ classifiedOf finish rules received track (framesAt (rules .lengths) received first (now (energies .entry))) ⌝ }
+{
+    let passed = pass(rules, received, track, first, energies);
+    let end = ended(finish, rules, received, passed.track);
+    let track = end.track;
+    Classified {
+        track,
+        loud: passed.loud,
+    }
+}
+
+// One row from a place on; answers the place after it.
+fn put_row(rows: &mut [u64], at: usize, chunk: SpeechChunk) -> usize
+    requires { ⌜ at + length (fieldsOf chunk) ≤ length (now rows) ⌝ }
+    ensures { λ r. ⌜ r ≡ at + length (fieldsOf chunk) ⌝ }
+    ensures { λ _. ⌜ now (rows .exit) ≡ sets (now (rows .entry)) at (fieldsOf chunk) ⌝ }
+{
+    rows[at] = chunk.start_sample;
+    rows[at + 1] = chunk.end_sample;
+    rows[at + 2] = chunk.start_time;
+    rows[at + 3] = chunk.end_time;
+    rows[at + 4] = chunk.score_total;
+    rows[at + 5] = chunk.frame_count;
+    rows[at + 6] = chunk.avg_energy;
+    at + ROW_FIELDS
+}
+
+fn put_report(rows: &mut [u64], at: usize, report: Report) -> usize
+    requires { ⌜ at + length (flat (reported report)) ≤ length (now rows) ⌝ }
+    ensures { λ r. ⌜ r ≡ at + length (flat (reported report)) ⌝ }
+    ensures { λ _. ⌜ now (rows .exit) ≡ sets (now (rows .entry)) at (flat (reported report)) ⌝ }
+{
+    match report {
+        Report::NoRow => at,
+        Report::Row(chunk) => put_row(rows, at, chunk),
+    }
+}
+
+// The frames in order, with their rows from the slice's start.
+fn write_closed(
+    rules: Rules,
+    received: u64,
+    track: Track,
+    first: u64,
+    energies: &[f32],
+    rows: &mut [u64],
+) -> Written
+    requires { ⌜ LengthsWithin (rules .lengths) × Within (2 ^ 41) (2 ^ 60) track ⌝ }
+    requires { ⌜ (received ≤ 2 ^ 41) × (first ≤ 2 ^ 41) × (length (now energies) ≤ 1024) ⌝ }
+    requires { ⌜ length (flat (rowsOf rules received track (framesAt (rules .lengths) received first (now energies)))) ≤ length (now rows) ⌝ }
+    ensures { λ r. ⌜ r .track ≡ trackAfter rules received track (framesAt (rules .lengths) received first (now (energies .entry))) ⌝ }
+    ensures { λ r. ⌜ r .end ≡ length (flat (rowsOf rules received track (framesAt (rules .lengths) received first (now (energies .entry))))) ⌝ }
+    ensures { λ _. ⌜ now (rows .exit) ≡ sets (now (rows .entry)) 0 (flat (rowsOf rules received track (framesAt (rules .lengths) received first (now (energies .entry))))) ⌝ }
+{
+    let lengths = rules.lengths;
+    let mut t = track;
+    let mut end = 0;
+    let mut start = first;
+    let mut i = 0;
+    while i < energies.len() {
+        let judged = judge(
+            rules,
+            received,
+            t,
+            frame_at(lengths, received, start, energies[i]),
+        );
+        let report = judged.report;
+        end = put_report(rows, end, report);
+        t = judged.track;
+        start += lengths.hop_length as u64;
+        i += 1;
+    }
+    Written { track: t, end }
+}
+
+// The rows of the call that `classify` judges, from the slice's start; what stands past them stays.
+pub fn write_rows(
+    rules: Rules,
+    received: u64,
+    track: Track,
+    first: u64,
+    energies: &[f32],
+    finish: bool,
+    rows: &mut [u64],
+)
+    requires { ⌜ LengthsWithin (rules .lengths) × Within (2 ^ 41) (2 ^ 60) track ⌝ }
+    requires { ⌜ (received ≤ 2 ^ 41) × (first ≤ 2 ^ 41) × (length (now energies) ≤ 1024) ⌝ }
+    requires { ⌜ length (flat (callRows finish rules received track (framesAt (rules .lengths) received first (now energies)))) ≤ length (now rows) ⌝ }
+    ensures { λ _. ⌜ now (rows .exit) ≡ sets (now (rows .entry)) 0 (flat (callRows finish rules received track (framesAt (rules .lengths) received first (now (energies .entry))))) ⌝ }
+{
+    let written = write_closed(rules, received, track, first, energies, rows);
+    let end = ended(finish, rules, received, written.track);
+    let report = end.report;
+    put_report(rows, written.end, report);
+}
+
+// How many numbers a row has: a lent slice holds as many rows as its length divided by this.
+pub const ROW_FIELDS: usize = 7;
