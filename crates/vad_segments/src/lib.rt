@@ -1,8 +1,8 @@
 // Frames judged and segments closed: `classify` and `finalize_segment` of the Rust's src/vad/detector.rs. What judging changes is a `Track`, passed in and returned; rows are lent.
-pub mod closing;
-pub mod judging;
-pub mod loudness;
-pub mod order;
+mod closing;
+mod judging;
+mod loudness;
+mod order;
 
 ghost use mathlib.Core.Path.{_≡_};
 ghost use mathlib.Core.Bool.{cond};
@@ -10,12 +10,16 @@ ghost use Prim.Native.Nat.{_+_, _≤_, _^_};
 ghost use lib.ListN.{length};
 ghost use lib.Seq.{sets};
 ghost use Rattle.vad_segments.specs.Closing.{flat, fieldsOf, reported};
+ghost use Rattle.vad_segments.specs.Loudness.{seedOf};
 ghost use Rattle.vad_segments.specs.Judging.{frameAt, framesAt, trackAfter, rowsOf, loudsOf, countOf, callRows, classifiedOf};
 ghost use Rattle.vad_segments.specs.Rooms.{LengthsWithin, Within};
 use closing::ended;
 use judging::judge;
 use vad_config::Lengths;
 use vad_config::VadConfig;
+
+// How many numbers a row has: a lent slice holds as many rows as its length divided by this.
+pub const ROW_FIELDS: usize = 7;
 
 // What opening fixed: the settings, the lengths worked out from them, and the weight that the host handed in.
 pub struct Rules {
@@ -98,6 +102,22 @@ pub struct Classified {
 pub struct Written {
     pub track: Track,
     pub end: usize,
+}
+
+// The quietest frame is taken rather than the first, so that a stream which starts in the middle of speech still gets an estimate, from the dips between syllables.
+pub fn seed(energy_floor: f32, noise_floor: f32, energies: &[f32]) -> f32
+    ensures { λ r. ⌜ r ≡ seedOf «energy_floor» «noise_floor» (now (energies .entry)) ⌝ }
+{
+    if energies.len() == 0 {
+        return noise_floor;
+    }
+    let mut quietest = energies[0];
+    let mut i = 1;
+    while i < energies.len() {
+        quietest = loudness::lesser(quietest, energies[i]);
+        i += 1;
+    }
+    loudness::at_least(energy_floor, quietest)
 }
 
 // A short frame ends where the sound received ends.
@@ -255,6 +275,3 @@ pub fn write_rows(
     let report = end.report;
     put_report(rows, written.end, report);
 }
-
-// How many numbers a row has: a lent slice holds as many rows as its length divided by this.
-pub const ROW_FIELDS: usize = 7;

@@ -2,7 +2,7 @@
 ghost use mathlib.Core.Path.{_≡_};
 ghost use mathlib.Core.Bool.{_&&_};
 ghost use lib.Ieee.{le};
-ghost use Rattle.vad_segments.specs.Loudness.{requiredOf, inSpeechOf, weightOf, atLeast, floorOf, lesserOf, seedOf};
+ghost use Rattle.vad_segments.specs.Loudness.{requiredOf, inSpeechOf, weightOf, atLeast, floorOf, lesserOf};
 use super::ActiveSegment;
 use vad_config::VadConfig;
 
@@ -42,7 +42,7 @@ pub fn floor_weight(rise: f32, smoothing: f32, speech: bool, floor: f32, energy:
     smoothing
 }
 
-fn at_least(least: f32, x: f32) -> f32
+pub fn at_least(least: f32, x: f32) -> f32
     ensures { λ r. ⌜ r ≡ atLeast least x ⌝ }
 {
     if x < least {
@@ -58,27 +58,11 @@ pub fn next_floor(least: f32, weight: f32, floor: f32, energy: f32) -> f32
     at_least(least, float::or_zero(blend))
 }
 
-fn lesser(m: f32, energy: f32) -> f32
+pub fn lesser(m: f32, energy: f32) -> f32
     ensures { λ r. ⌜ r ≡ lesserOf m energy ⌝ }
 {
     if energy < m {
         return energy;
     }
     m
-}
-
-// The quietest frame is taken rather than the first, so that a stream which starts in the middle of speech still gets an estimate, from the dips between syllables.
-pub fn seed(energy_floor: f32, noise_floor: f32, energies: &[f32]) -> f32
-    ensures { λ r. ⌜ r ≡ seedOf «energy_floor» «noise_floor» (now (energies .entry)) ⌝ }
-{
-    if energies.len() == 0 {
-        return noise_floor;
-    }
-    let mut quietest = energies[0];
-    let mut i = 1;
-    while i < energies.len() {
-        quietest = lesser(quietest, energies[i]);
-        i += 1;
-    }
-    at_least(energy_floor, quietest)
 }

@@ -5,8 +5,8 @@ use lib.ListN.{length, drop}
 use Rattle.vad_segments.specs.Loudness.{atLeast, leastFrom, seedOf}
 use Rattle.vad_segments.proofs.Turns.{seed-first, seed-none, least-step, least-end}
 use borrow.Author.Needs.{needs}
-use Rattle.vad_segments.proofs.loudness.seed.Statement.{statement}
-use Rattle.vad_segments.proofs.loudness.seed.Tie as tie
+use Rattle.vad_segments.proofs.seed.Statement.{statement}
+use Rattle.vad_segments.proofs.seed.Tie as tie
 
 abbrev Inv-loop : tie.InvT-loop
 Inv-loop energy-floor noise-floor energies quietest₀ i₀ quietest i = (i ≤ length energies) × (atLeast energy-floor (leastFrom quietest (drop i energies)) ≡ seedOf energy-floor noise-floor energies)
