@@ -149,8 +149,16 @@ fn rows_of_segments() {
     let mut before = 0;
     // For each call: the floor's bits, the loud frames, the rows and what the original says of each.
     let mut answers = Vec::new();
+    // After each call: where frames were left, and the undecided position.
+    let mut positions = Vec::new();
     let mut heard = Vec::new();
-    let mut take = |received: usize, start: usize, finish: bool, answer: Answer| {
+    let mut take = |received: usize, finish: bool, block: &[f32]| {
+        let start = probe.analyzed_until();
+        let answer = match finish {
+            true => probe.flush().unwrap(),
+            false => probe.detect(block).unwrap(),
+        };
+        positions.extend([probe.analyzed_until() as u64, probe.undecided_from() as u64]);
         let frames = answer.stats.frames_processed;
         calls.extend([
             received as u64,
@@ -175,17 +183,16 @@ fn rows_of_segments() {
     for (n, cut) in CUTS.iter().enumerate() {
         let block = &samples[received..received + cut];
         received += cut;
-        let start = probe.analyzed_until();
-        take(received, start, false, probe.detect(block).unwrap());
+        take(received, false, block);
         if FLUSHED.contains(&(n + 1)) {
             heard.extend(energies(None, &samples[begun..received]));
             begun = received;
-            let start = probe.analyzed_until();
-            take(received, start, true, probe.flush().unwrap());
+            take(received, true, &[]);
         }
     }
     hold(SEGMENTS, "energies", &bits(&heard), true);
     hold(SEGMENTS, "calls", &calls, false);
+    hold(SEGMENTS, "positions", &positions, false);
     println!("rise 0x{:08X}", rise.to_bits());
     println!("answers (scores by the confidence) {answers:?}");
 

@@ -1,4 +1,4 @@
--- What the original answered in one small run, computed from the definitions call by call. `rows_of_segments` in the oracle's tests runs the original and holds `energies`, `calls` and `answers` to it; the scores alone are the port's own.
+-- What the original answered in one small run, computed from the definitions call by call. `rows_of_segments` in the oracle's tests runs the original and holds `energies`, `calls`, `answers` and `positions` to it; the scores alone are the port's own.
 use mathlib.Core.Path.{_≡_, refl}
 use mathlib.Core.Bool.{Bool, true, false, cond}
 use mathlib.Core.List.{List, [], _∷_, _++_, map}
@@ -13,6 +13,7 @@ use Rattle.vad_config.specs.Lengths.{timeOf, timeOfSampleOf}
 use Rattle.vad_segments.specs.Loudness.{ratioOf, requiredOf, loudOf, inSpeechOf, weightOf, atLeast, floorOf}
 use Rattle.vad_segments.specs.Closing.{meanEnergyOf, timeAt, chunkOf, fieldsOf, reported, flat, talkOf, paddedStart, paddedEnd, droppedOf, tooShort, timedOf, finalizedOf, settledOf, closedBy, closedOf}
 use Rattle.vad_segments.specs.Judging.{flooredTo, activeTo, begunAt, segmentFor, extendedBy, heardOf, pausedBy, pausedOf, floorAfter, turnedOf, judgedOf, frameAt, framesAt, trackAfter, rowsOf, loudsOf, countOf, endedOf, callRows, callTrack, classifiedOf}
+use Rattle.vad_segments.specs.Positions.{nextOf, decidedTo, undecidedOf}
 use Rattle.vad_segments.specs.declared.Rules.{Rules}
 use Rattle.vad_segments.specs.declared.Track.{Track}
 use Rattle.vad_segments.specs.declared.ActiveSegment.{ActiveSegment}
@@ -96,6 +97,32 @@ answers =
     ∷ (1007118126 ∷ 1 ∷ 0 ∷ [])
     ∷ (1007135119 ∷ 2 ∷ 0 ∷ [])
     ∷ (1006632960 ∷ 1 ∷ 1 ∷ 294 ∷ 352 ∷ 36750000 ∷ 44000000 ∷ 3183 ∷ 4 ∷ 1029852388 ∷ [])
+    ∷ []
+
+-- after each call where frames were left, and the undecided position
+unfoldable pub positions : List (List ℕ)
+positions =
+    (0 ∷ 0 ∷ [])
+    ∷ (16 ∷ 0 ∷ [])
+    ∷ (40 ∷ 0 ∷ [])
+    ∷ (56 ∷ 56 ∷ [])
+    ∷ (64 ∷ 64 ∷ [])
+    ∷ (72 ∷ 64 ∷ [])
+    ∷ (80 ∷ 64 ∷ [])
+    ∷ (80 ∷ 64 ∷ [])
+    ∷ (104 ∷ 104 ∷ [])
+    ∷ (128 ∷ 112 ∷ [])
+    ∷ (144 ∷ 128 ∷ [])
+    ∷ (176 ∷ 152 ∷ [])
+    ∷ (208 ∷ 184 ∷ [])
+    ∷ (224 ∷ 192 ∷ [])
+    ∷ (248 ∷ 192 ∷ [])
+    ∷ (272 ∷ 192 ∷ [])
+    ∷ (286 ∷ 286 ∷ [])
+    ∷ (310 ∷ 286 ∷ [])
+    ∷ (326 ∷ 294 ∷ [])
+    ∷ (342 ∷ 294 ∷ [])
+    ∷ (352 ∷ 352 ∷ [])
     ∷ []
 
 -- the track before each call, and after the last: floor, last segment end, rows, talk, and the open segment's start, last loud end, score, energy, loud frames and silence run
@@ -186,3 +213,13 @@ calls-16-to-18 = (refl, refl, refl)
 calls-19-to-20 : Told 19 × Told 20
 unfolding energies calls answers tracks framesAt frameAt classifiedOf callTrack callRows rowsOf trackAfter loudsOf countOf endedOf judgedOf turnedOf floorAfter pausedOf pausedBy heardOf extendedBy segmentFor begunAt activeTo flooredTo closedOf closedBy settledOf finalizedOf timedOf tooShort droppedOf paddedEnd paddedStart talkOf flat reported fieldsOf chunkOf timeAt meanEnergyOf floorOf atLeast weightOf inSpeechOf loudOf requiredOf ratioOf scoreOf reaches largest timeOf timeOfSampleOf rateIn startIn receivedIn fusedOf ofBits toBits ofInt le lt add sub mul div neg sum round
 calls-19-to-20 = (refl, refl)
+
+-- the undecided positions, the padding being 24, of the tracks after the calls
+abbrev pub undecided : List (List ℕ) → List (List ℕ) → List (List ℕ)
+undecided [] ts = []
+undecided (p ∷ ps) [] = []
+undecided (p ∷ ps) (t ∷ ts) = (getD p 0 0 ∷ undecidedOf false 24 (getD p 0 0) (trackFrom t) ∷ []) ∷ undecided ps ts
+
+positions-as-the-original : undecided positions (drop 1 tracks) ≡ positions
+unfolding positions tracks undecidedOf decidedTo nextOf
+positions-as-the-original = refl

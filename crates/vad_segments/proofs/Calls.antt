@@ -1,8 +1,9 @@
 -- What a frame's parts come to, over plain variables. Assumes nothing.
 use mathlib.Core.Path.{_≡_, sym, ap, _∙_}
-use mathlib.Core.Bool.{Bool, _&&_}
-use mathlib.Core.List.{List, _++_}
-use Prim.Native.Nat.{ℕ, _+_, _≤_, _<_}
+use mathlib.Core.Bool.{Bool, not, _&&_}
+use mathlib.Core.List.{List, _++_, map}
+use Prim.Native.Nat.{ℕ, _+_, _-_, _≤_, _<_}
+use native.Mathlib.Omega.{arith}
 use native.Mathlib.Nat.{zero-add}
 use lib.ListN.{length, length-append}
 use lib.Seq.{sets}
@@ -21,6 +22,7 @@ use Rattle.vad_segments.specs.declared.SpeechChunk.{SpeechChunk}
 use Rattle.vad_segments.specs.declared.Report.the-variants.{Row}
 use Rattle.vad_segments.specs.declared.Judged.{Judged}
 use Rattle.vad_segments.proofs.Laws.{flat-append}
+use Rattle.vad_segments.proofs.Counts.{loud-and-quiet}
 
 pub judged-is : (r : Rules) (limit : ℕ) (t : Track) (f : FrameMetrics) (required weight floor : Float) (loud speech : Bool)
     → required ≡ requiredOf (r .config) (t .«active_segment»)
@@ -46,9 +48,12 @@ module _ (c : VadConfig) (limit prev start end : ℕ) (s : ActiveSegmentState) (
 -- ---- a call
 
 module _ (finish : Bool) (r : Rules) (limit : ℕ) (t : Track) (fs : List FrameMetrics) (u : Track) (e : u ≡ trackAfter r limit t fs) (j : Judged) (k : j ≡ endedOf finish r limit u) where
-  pub classified-is : (n : ℕ) → n ≡ countOf (loudsOf r limit t fs) → record { track = j .track; loud = n } ≡ classifiedOf finish r limit t fs
+  pub classified-is : (n loud : ℕ) → n ≡ length fs → loud ≡ countOf (loudsOf r limit t fs) → record { track = j .track; frames = n; loud = loud; quiet = n - loud } ≡ classifiedOf finish r limit t fs
   unfolding classifiedOf callTrack
-  classified-is n l = rw (k, e, l)
+  classified-is n loud f l =
+      let all = loud-and-quiet r limit t fs in
+      let quiet : n - loud ≡ countOf (map not (loudsOf r limit t fs)) = omega arith in
+      rw (quiet, k, e, l, f)
 
   call-flat : flat (callRows finish r limit t fs) ≡ flat (rowsOf r limit t fs) ++ flat (reported (j .report))
   unfolding callRows

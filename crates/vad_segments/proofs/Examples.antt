@@ -15,6 +15,7 @@ use Rattle.vad_config.specs.declared.Lengths.{Lengths}
 use Rattle.vad_segments.specs.Loudness.{ratioOf, requiredOf, loudOf, inSpeechOf, weightOf, atLeast, floorOf, lesserOf, leastFrom, seedOf}
 use Rattle.vad_segments.specs.Closing.{meanEnergyOf, timeAt, chunkOf, fieldsOf, reported, flat, talkOf, paddedStart, paddedEnd, droppedOf, tooShort, timedOf, finalizedOf, settledOf, closedBy, closedOf}
 use Rattle.vad_segments.specs.Judging.{flooredTo, activeTo, begunAt, segmentFor, extendedBy, heardOf, pausedBy, pausedOf, floorAfter, turnedOf, judgedOf, frameAt, framesAt, trackAfter, rowsOf, endedOf, callRows}
+use Rattle.vad_segments.specs.Positions.{nextOf, decidedTo, undecidedOf}
 use Rattle.vad_segments.specs.declared.Rules.{Rules}
 use Rattle.vad_segments.specs.declared.FrameMetrics.{FrameMetrics}
 use Rattle.vad_segments.specs.declared.Track.{Track}
@@ -75,3 +76,18 @@ run-a = refl
 pub run-b : flat (callRows true (runRules 0x3FC0_0000) 480 runTrack runFrames) ≡ 120 ∷ 360 ∷ 15000000 ∷ 45000000 ∷ 1325 ∷ 2 ∷ 1065353216 ∷ []
 unfolding framesAt frameAt callRows rowsOf trackAfter endedOf judgedOf turnedOf floorAfter pausedOf pausedBy heardOf extendedBy segmentFor begunAt activeTo flooredTo closedOf closedBy settledOf finalizedOf timedOf tooShort droppedOf paddedEnd paddedStart talkOf flat reported fieldsOf chunkOf timeAt meanEnergyOf floorOf atLeast weightOf inSpeechOf loudOf requiredOf ratioOf scoreOf reaches largest timeOf timeOfSampleOf rateIn startIn receivedIn fusedOf ofBits toBits ofInt le lt add sub mul div neg sum round
 run-b = refl
+
+-- ---- the undecided position after run A: its last segment ended at 280, nothing is open, and frames were judged up to 480
+pub undecided-closed : undecidedOf false 40 480 (record { «noise_floor» = ofBits binary32 0x3C80_0000; «last_segment_end» = 280; «rows_reported» = 1; «talk_samples» = 160; «active_segment» = Closed }) ≡ 440
+unfolding undecidedOf decidedTo nextOf
+undecided-closed = refl
+
+-- had it been the last sound, it would be decided to its end
+pub undecided-ended : undecidedOf false 40 300 (record { «noise_floor» = ofBits binary32 0x3C80_0000; «last_segment_end» = 280; «rows_reported» = 1; «talk_samples» = 160; «active_segment» = Closed }) ≡ 280
+unfolding undecidedOf decidedTo nextOf
+undecided-ended = refl
+
+-- held frames: nothing is decided
+pub undecided-held : undecidedOf true 40 480 runTrack ≡ 0
+unfolding undecidedOf
+undecided-held = refl

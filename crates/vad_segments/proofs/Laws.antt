@@ -2,14 +2,14 @@
 use mathlib.Core.Path.{_≡_, refl, ap}
 use mathlib.Core.Bool.{Bool}
 use mathlib.Core.List.{List, [], _∷_, _++_, append-assoc, append-nil}
-use Prim.Native.Nat.{ℕ, suc, _+_, _*_}
-use native.Mathlib.Nat.{zero-add, suc-mul}
+use Prim.Native.Nat.{ℕ, suc, _+_, _*_, _≤_}
+use native.Mathlib.Nat.{zero-add, suc-mul, div-mul-le-self}
 use native.Mathlib.Omega.{arith}
 use lib.ListN.{length, set, length-append}
 use lib.Seq.{sets}
 use lib.Ieee.{Float}
 use Rattle.vad_config.specs.declared.Lengths.{Lengths}
-use Rattle.vad_segments.specs.Closing.{fieldsOf, rowWidth, reported, flat}
+use Rattle.vad_segments.specs.Closing.{fieldsOf, rowWidth, roomOf, reported, flat}
 use Rattle.vad_segments.specs.Judging.{judgedOf, framesAt, trackAfter, rowsOf, loudsOf, countOf}
 use Rattle.vad_segments.specs.declared.Rules.{Rules}
 use Rattle.vad_segments.specs.declared.FrameMetrics.{FrameMetrics}
@@ -27,6 +27,11 @@ pub flat-length : (rs : List SpeechChunk) → length (flat rs) ≡ length rs * r
 unfolding flat
 flat-length [] = refl
 flat-length (r ∷ rs) = let here = length-append (fieldsOf r) (flat rs) in let w = fields-length r in let rest = flat-length rs in omega arith
+
+-- rows that fit have room
+pub room-enough : (k n : ℕ) → k ≤ roomOf n → k * rowWidth ≤ n
+unfolding roomOf
+room-enough k n h = let m = div-mul-le-self n rowWidth in omega arith
 
 pub flat-append : (a b : List SpeechChunk) → flat (a ++ b) ≡ flat a ++ flat b
 unfolding flat

@@ -1,9 +1,10 @@
 pub mod Laws
 pub mod Rooms
 pub mod Turns
-pub mod Calls
 pub mod Ordered
+pub mod Undecided
 pub mod Counts
+pub mod Calls
 pub mod Floor
 pub mod Examples
 pub mod Unique

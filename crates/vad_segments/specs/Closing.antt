@@ -1,7 +1,7 @@
 -- A segment closed, as `finalize_segment` does, and its row: document 01's 'Score, rows, tally'.
 use mathlib.Core.Bool.{Bool, false, _||_, cond}
 use mathlib.Core.List.{List, [], _∷_, _++_}
-use Prim.Native.Nat.{ℕ, suc, _+_, _-_, min, max}
+use Prim.Native.Nat.{ℕ, suc, _+_, _-_, _/_, min, max}
 use lib.Dec.{leb, ltb}
 use lib.ListN.{length}
 use lib.IntN.{pos}
@@ -55,6 +55,10 @@ fieldsOf r =
 
 abbrev pub rowWidth : ℕ
 rowWidth = 7
+
+-- of a lent slice 'its length div the fields of a row fit'
+unfoldable pub roomOf : ℕ → ℕ
+roomOf n = n / rowWidth
 
 -- what a frame reports, as rows
 unfoldable pub reported : Report → List SpeechChunk

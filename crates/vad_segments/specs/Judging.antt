@@ -1,7 +1,8 @@
 -- `classify`: one frame judged, and a call's frames in order.
-use mathlib.Core.Bool.{Bool, true, false, cond}
-use mathlib.Core.List.{List, [], _∷_, _++_}
+use mathlib.Core.Bool.{Bool, true, false, not, cond}
+use mathlib.Core.List.{List, [], _∷_, _++_, map}
 use Prim.Native.Nat.{ℕ, suc, _+_, min, max}
+use lib.ListN.{length}
 use lib.Ieee.{Float, binary32, ofBits, add}
 use Rattle.score.specs.Score.{scoreOf}
 use Rattle.vad_config.specs.declared.Lengths.{Lengths}
@@ -152,6 +153,8 @@ callRows finish r limit t fs = rowsOf r limit t fs ++ reported (endedOf finish r
 unfoldable pub callTrack : Bool → Rules → ℕ → Track → List FrameMetrics → Track
 callTrack finish r limit t fs = endedOf finish r limit (trackAfter r limit t fs) .track
 
--- the state's part, and the loud frames
+-- the track, with the floor in it, and 'frames, loud and quiet counts'
 unfoldable pub classifiedOf : Bool → Rules → ℕ → Track → List FrameMetrics → Classified
-classifiedOf finish r limit t fs = record { track = callTrack finish r limit t fs; loud = countOf (loudsOf r limit t fs) }
+classifiedOf finish r limit t fs =
+    let louds = loudsOf r limit t fs in
+    record { track = callTrack finish r limit t fs; frames = length fs; loud = countOf louds; quiet = countOf (map not louds) }

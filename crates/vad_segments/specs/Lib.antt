@@ -1,4 +1,5 @@
 pub mod Loudness
 pub mod Closing
 pub mod Judging
+pub mod Positions
 pub mod Rooms

@@ -3,6 +3,7 @@ mod closing;
 mod judging;
 mod loudness;
 mod order;
+pub mod positions;
 
 ghost use mathlib.Core.Path.{_≡_};
 ghost use mathlib.Core.Bool.{cond};
@@ -93,9 +94,17 @@ pub struct Judged {
 }
 
 // The track after a call's frames, and how many of them were loud.
-pub struct Classified {
+pub struct Passed {
     pub track: Track,
     pub loud: usize,
+}
+
+// The track after a call, and its frames, loud and quiet.
+pub struct Classified {
+    pub track: Track,
+    pub frames: usize,
+    pub loud: usize,
+    pub quiet: usize,
 }
 
 // The track after the frames whose rows were written, and the place after the rows.
@@ -143,7 +152,7 @@ fn one_more(count: usize, loud: bool) -> usize
 }
 
 // The frames in order, without their rows.
-fn pass(rules: Rules, received: u64, track: Track, first: u64, energies: &[f32]) -> Classified
+fn pass(rules: Rules, received: u64, track: Track, first: u64, energies: &[f32]) -> Passed
     requires { ⌜ LengthsWithin (rules .lengths) × Within (2 ^ 41) (2 ^ 60) track ⌝ }
     requires { ⌜ (received ≤ 2 ^ 41) × (first ≤ 2 ^ 41) × (length (now energies) ≤ 1024) ⌝ }
     ensures { λ r. ⌜ r .track ≡ trackAfter rules received track (framesAt (rules .lengths) received first (now (energies .entry))) ⌝ }
@@ -166,7 +175,7 @@ fn pass(rules: Rules, received: u64, track: Track, first: u64, energies: &[f32])
         start += lengths.hop_length as u64;
         i += 1;
     }
-    Classified { track: t, loud }
+    Passed { track: t, loud }
 }
 
 // A call's frames judged one after the other, the first of them at `first`; with `finish` the open segment is closed after them.
@@ -185,9 +194,12 @@ pub fn classify(
     let passed = pass(rules, received, track, first, energies);
     let end = ended(finish, rules, received, passed.track);
     let track = end.track;
+    let frames = energies.len();
     Classified {
         track,
+        frames,
         loud: passed.loud,
+        quiet: frames - passed.loud,
     }
 }
 

@@ -1,0 +1,20 @@
+use Rattle.vad_segments.specs.Positions.{decidedTo}
+use borrow.Author.Needs.{needs}
+use Rattle.vad_segments.proofs.positions.decided_to.Statement.{statement}
+use Rattle.vad_segments.proofs.positions.decided_to.Tie as tie
+
+less-requires : tie.Need-less-requires
+less-requires c κs = search needs
+
+lesser-requires : tie.Need-lesser-requires
+lesser-requires c κs = search needs
+
+greater-requires : tie.Need-greater-requires
+greater-requires c κs = search needs
+
+returns : tie.Need-returns
+unfolding decidedTo
+returns c = simp (c .greater .ensures, c .before .lesser .ensures, c .before .before .less .ensures)
+
+pub decided-to-spec : {M : Type 1} → statement M
+decided-to-spec = tie.close (tie.spec less-requires lesser-requires greater-requires returns)
