@@ -4,15 +4,15 @@ use mathlib.Core.Logic.{_⊎_, inl, inr}
 use Prim.Native.Nat.{ℕ, zero, suc, _+_, _-_, _*_, _/_, _%_, _^_, _≤_, _<_, compare}
 use native.Mathlib.Nat.{le-antisymm, le-refl, le-trans, le-of-eq, lt-of-lt-of-le, lt-of-le-of-lt, lt-of-not-le, lt-irrefl, eq-zero-or-pos, eq-or-lt-of-le, add-assoc, mul-pos, mul-assoc, mul-one, mul-le-mul-right, mul-lt-mul-of-pos-right, le-div-iff-mul-le, mul-div-cancel}
 use native.Mathlib.Omega.{arith}
-use mathlib.Core.Bool.{Bool, true, false, not, cond}
+use mathlib.Core.Bool.{Bool, true, false, cond}
 use lib.Dec.{T, ltb, ltb→lt, lt→ltb, not-T, lit<}
 use lib.Pow.{pow-add, pow-pos, pow-mono, pow-lt, shr-lt}
-use lib.Ieee.{Float, nan, inf, fin, Format, binary32, prec, low, down, size, nearest, odd, units, round, toBits, ofBits, top}
+use lib.Ieee.{Float, nan, inf, fin, Format, binary32, prec, low, down, size, odd, units, round, toBits, ofBits, top}
 use lib.Ieee.Digits.{Equals, odd-val, size-lt, size-le}
 use lib.Ieee.Fits.{round-is, two, two-le-pos, nearest-le, odd-fits, down-pos}
 use lib.Ieee.Bits.{ofBits-toBits, cond-no}
 use lib.Ieee.Nearest.{closest, closest-same, nearest-ge}
-use lib.Ieee.Order.{drop, kept}
+use lib.Ieee.Order.{kept}
 use Rattle.float.proofs.Sticky.{Dropped, drop-is}
 
 -- ---- a word with its top digit placed

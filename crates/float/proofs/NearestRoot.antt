@@ -8,7 +8,7 @@ use mathlib.Core.Bool.{true, false, true≢false}
 use lib.Dec.{T, ltb, ltb→lt, lt→ltb, lit≤, lit<}
 use lib.Pow.{pow-add, pow-pos, pow-mono, pow-lt, shl-lt}
 use lib.IntN.{ℤ}
-use lib.Ieee.{Float, nan, inf, fin, binary32, up, down, size, nearest, round, fits, lt, toBits, ofBits}
+use lib.Ieee.{Float, nan, inf, fin, binary32, up, down, size, nearest, round, fits, lt, ofBits}
 use lib.Ieee.Digits.{Equals, size-le}
 use lib.Ieee.Fits.{round-fits, nearest-le, down-pos}
 use lib.Ieee.Bits.{ofBits-toBits}

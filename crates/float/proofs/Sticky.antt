@@ -7,7 +7,7 @@ use native.Mathlib.Omega.{arith}
 use mathlib.Core.Bool.{Bool, true, false, not}
 use lib.Dec.{T, ltb, isLe, isEq, eqb, leb→le, nleb→lt, eqb→eq, eqb-refl, ltb→lt, nltb→le}
 use lib.Arith.{lt-of-le-ne}
-use lib.Pow.{pow-add, pow-pos, pow-mono, pow-lt}
+use lib.Pow.{pow-add, pow-pos, pow-mono}
 use lib.Ieee.{Format, prec, low, size, nearest, units, round}
 use lib.Ieee.Digits.{size-lt, size-le, size-reaches}
 use lib.Ieee.Fits.{round-is, two, two-le-pos}

@@ -1,11 +1,11 @@
 -- What the original answered in one small run, computed from the definitions call by call. `rows_of_segments` in the oracle's tests runs the original and holds `energies`, `calls`, `answers` and `positions` to it; the scores alone are the port's own.
 use mathlib.Core.Path.{_≡_, refl}
-use mathlib.Core.Bool.{Bool, true, false, cond}
+use mathlib.Core.Bool.{false, cond}
 use mathlib.Core.List.{List, [], _∷_, _++_, map}
 use Prim.Native.Nat.{ℕ, suc}
 use lib.Dec.{eqb}
 use lib.ListN.{length, take, drop, getD}
-use lib.Ieee.{Float, binary32, ofBits, ofInt, le, lt, add, sub, mul, div, neg, sum, round, toBits}
+use lib.Ieee.{binary32, ofBits, ofInt, le, lt, add, sub, mul, div, neg, sum, round, toBits}
 use Rattle.float.specs.Fused.{fusedOf}
 use Rattle.score.specs.Score.{scoreOf, reaches, largest}
 use Rattle.vad_config.specs.Domain.{rateIn, startIn, receivedIn}
