@@ -14,7 +14,7 @@ use lib.Ieee.Bits.{ofBits-toBits}
 use lib.Ieee.Scale.{finite}
 use lib.Ieee.Exact.{HasValue, odd-sign}
 use borrow.Author.Tests.{eqb-true, eqb-false, eq-eqb, ne-eqb}
-use Rattle.float.specs.Inside.{bitsOf, fieldOf, signOf, placeAt, significandAt, M, Q}
+use Rattle.float.specs.Inside.{fieldOf, signOf, placeAt, significandAt, M, Q}
 
 -- finite: the field is below 255, and the value is the significand times 2 ^ (place - 150)
 abbrev pub Decoded : Float → ℕ → Type 0
@@ -55,7 +55,7 @@ ofBits-is : (b : ℕ) → ofBits binary32 b ≡ ofFields binary32 (signOf b) (fi
 unfolding ofBits
 ofBits-is b = refl
 
-pub decoded : (x : Float) → T (fits binary32 x) → Decoded x (bitsOf x)
+pub decoded : (x : Float) → T (fits binary32 x) → Decoded x (toBits binary32 x)
 unfolding isNan toBits
 decoded nan t = refl
 decoded (inf true) t = refl
@@ -69,13 +69,13 @@ decoded (fin s m e) t =
     finish s m e b h = (h .0, h .1 .0, h .1 .1)
 
 -- ---- finite, by the field
-pub finite-says : (x : Float) → T (fits binary32 x) → not (eqb (fieldOf (bitsOf x)) 255) ≡ finite x
+pub finite-says : (x : Float) → T (fits binary32 x) → not (eqb (fieldOf (toBits binary32 x)) 255) ≡ finite x
 finite-says x t = go x (decoded x t)
   where
-    go : (x : Float) → Decoded x (bitsOf x) → not (eqb (fieldOf (bitsOf x)) 255) ≡ finite x
-    go nan d = ap not (eq-eqb (fieldOf (bitsOf nan)) 255 d)
-    go (inf s) d = ap not (eq-eqb (fieldOf (bitsOf (inf s))) 255 d)
-    go (fin s m e) d = ap not (ne-eqb (fieldOf (bitsOf (fin s m e))) 255 (λ q. lt-irrefl 255 (subst (λ (k : ℕ). k < 255) q (d .0))))
+    go : (x : Float) → Decoded x (toBits binary32 x) → not (eqb (fieldOf (toBits binary32 x)) 255) ≡ finite x
+    go nan d = ap not (eq-eqb (fieldOf (toBits binary32 nan)) 255 d)
+    go (inf s) d = ap not (eq-eqb (fieldOf (toBits binary32 (inf s))) 255 d)
+    go (fin s m e) d = ap not (ne-eqb (fieldOf (toBits binary32 (fin s m e))) 255 (λ q. lt-irrefl 255 (subst (λ (k : ℕ). k < 255) q (d .0))))
 
 -- ---- the significand's size
 pub significand-lt : (b : ℕ) → M b < 2 ^ 24

@@ -6,10 +6,10 @@ use mathlib.Core.Bool.{Bool}
 use lib.Dec.{T}
 use lib.Pow.{pow-add, pow-pos}
 use lib.IntN.{ℤ}
-use lib.Ieee.{Float, nan, inf, fin, binary32, unlike, up, down, sum, fits}
+use lib.Ieee.{Float, nan, inf, fin, binary32, unlike, up, down, sum, fits, toBits}
 use lib.Ieee.Fits.{down-pos}
 use Rattle.float.specs.declared.Rounded.the-variants.{Nothing}
-use Rattle.float.specs.Inside.{fieldOf, signOf, bitsOf, fusedBitsOf, M, Q}
+use Rattle.float.specs.Inside.{fieldOf, signOf, fusedBitsOf, M, Q}
 use Rattle.float.specs.Finite.{rounded}
 use Rattle.float.specs.Fused.{fusedOf}
 use Rattle.float.proofs.Align.{sum-same}
@@ -19,21 +19,21 @@ use Rattle.float.proofs.Decode.{Decoded, decoded}
 clash : {X : Type 0} (x : ℕ) → x < 255 → x ≡ 255 → X
 clash x h e = absurd (lt-irrefl 255 (subst (λ (z : ℕ). z < 255) e h))
 
-pub no-first : (a b c : Float) → T (fits binary32 a) → fieldOf (bitsOf a) ≡ 255 → Nothing ≡ fusedOf a b c
+pub no-first : (a b c : Float) → T (fits binary32 a) → fieldOf (toBits binary32 a) ≡ 255 → Nothing ≡ fusedOf a b c
 unfolding fusedOf
 no-first nan b c t e = refl
 no-first (inf s) b c t e = refl
-no-first (fin s m d) b c t e = clash (fieldOf (bitsOf (fin s m d))) (decoded (fin s m d) t .0) e
+no-first (fin s m d) b c t e = clash (fieldOf (toBits binary32 (fin s m d))) (decoded (fin s m d) t .0) e
 
-pub no-second : (a b c : Float) → T (fits binary32 b) → fieldOf (bitsOf b) ≡ 255 → Nothing ≡ fusedOf a b c
+pub no-second : (a b c : Float) → T (fits binary32 b) → fieldOf (toBits binary32 b) ≡ 255 → Nothing ≡ fusedOf a b c
 unfolding fusedOf
 no-second nan b c t e = refl
 no-second (inf s) b c t e = refl
 no-second (fin s m d) nan c t e = refl
 no-second (fin s m d) (inf u) c t e = refl
-no-second (fin s m d) (fin u n g) c t e = clash (fieldOf (bitsOf (fin u n g))) (decoded (fin u n g) t .0) e
+no-second (fin s m d) (fin u n g) c t e = clash (fieldOf (toBits binary32 (fin u n g))) (decoded (fin u n g) t .0) e
 
-pub no-third : (a b c : Float) → T (fits binary32 c) → fieldOf (bitsOf c) ≡ 255 → Nothing ≡ fusedOf a b c
+pub no-third : (a b c : Float) → T (fits binary32 c) → fieldOf (toBits binary32 c) ≡ 255 → Nothing ≡ fusedOf a b c
 unfolding fusedOf
 no-third nan b c t e = refl
 no-third (inf s) b c t e = refl
@@ -41,7 +41,7 @@ no-third (fin s m d) nan c t e = refl
 no-third (fin s m d) (inf u) c t e = refl
 no-third (fin s m d) (fin u n g) nan t e = refl
 no-third (fin s m d) (fin u n g) (inf v) t e = refl
-no-third (fin s m d) (fin u n g) (fin v p h) t e = clash (fieldOf (bitsOf (fin v p h))) (decoded (fin v p h) t .0) e
+no-third (fin s m d) (fin u n g) (fin v p h) t e = clash (fieldOf (toBits binary32 (fin v p h))) (decoded (fin v p h) t .0) e
 
 -- ---- the exact fractions are the same
 cross-product : (a b g h k x y d e : ℕ) → a * h ≡ x * d → b * h ≡ y * e → a * b * g * (h * h * k) ≡ x * y * k * (d * e * g)
@@ -67,15 +67,15 @@ product-of m n p q =
 addend-of : (m q : ℕ) → m * 2 ^ q * (2 ^ 150 * 2 ^ 14) ≡ m * 2 ^ (q + 164)
 addend-of m q = mul-assoc m (2 ^ q) (2 ^ 150 * 2 ^ 14) ∙ ap (λ (z : ℕ). m * z) (sym (pow-add 2 q 164))
 
-pub fused-is : (a b c : Float) → Decoded a (bitsOf a) → Decoded b (bitsOf b) → Decoded c (bitsOf c)
-    → (fieldOf (bitsOf a) ≡ 255 → ⊥) → (fieldOf (bitsOf b) ≡ 255 → ⊥) → (fieldOf (bitsOf c) ≡ 255 → ⊥) → fusedBitsOf (bitsOf a) (bitsOf b) (bitsOf c) ≡ fusedOf a b c
+pub fused-is : (a b c : Float) → Decoded a (toBits binary32 a) → Decoded b (toBits binary32 b) → Decoded c (toBits binary32 c)
+    → (fieldOf (toBits binary32 a) ≡ 255 → ⊥) → (fieldOf (toBits binary32 b) ≡ 255 → ⊥) → (fieldOf (toBits binary32 c) ≡ 255 → ⊥) → fusedBitsOf (toBits binary32 a) (toBits binary32 b) (toBits binary32 c) ≡ fusedOf a b c
 fused-is nan b c p q r u v w = absurd (u p)
 fused-is (inf s) b c p q r u v w = absurd (u p)
 fused-is (fin s m e) nan c p q r u v w = absurd (v q)
 fused-is (fin s m e) (inf t) c p q r u v w = absurd (v q)
 fused-is (fin s m e) (fin t n d) nan p q r u v w = absurd (w r)
 fused-is (fin s m e) (fin t n d) (inf i) p q r u v w = absurd (w r)
-fused-is (fin s m e) (fin t n d) (fin i l g) p q r u v w = both s m e t n d i l g (bitsOf (fin s m e)) (bitsOf (fin t n d)) (bitsOf (fin i l g)) p q r
+fused-is (fin s m e) (fin t n d) (fin i l g) p q r u v w = both s m e t n d i l g (toBits binary32 (fin s m e)) (toBits binary32 (fin t n d)) (toBits binary32 (fin i l g)) p q r
   where
     both : (s : Bool) (m : ℕ) (e : ℤ) (t : Bool) (n : ℕ) (d : ℤ) (i : Bool) (l : ℕ) (g : ℤ) (x y z : ℕ) → Decoded (fin s m e) x → Decoded (fin t n d) y → Decoded (fin i l g) z → fusedBitsOf x y z ≡ fusedOf (fin s m e) (fin t n d) (fin i l g)
     both s m e t n d i l g x y z p q r =

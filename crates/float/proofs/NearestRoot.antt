@@ -8,7 +8,7 @@ use mathlib.Core.Bool.{true, false, true≢false}
 use lib.Dec.{T, ltb, ltb→lt, lt→ltb, lit≤, lit<}
 use lib.Pow.{pow-add, pow-pos, pow-mono, pow-lt, shl-lt}
 use lib.IntN.{ℤ}
-use lib.Ieee.{Float, nan, inf, fin, binary32, up, down, size, nearest, round, fits, lt, ofBits}
+use lib.Ieee.{Float, nan, inf, fin, binary32, up, down, size, nearest, round, fits, lt, ofBits, toBits}
 use lib.Ieee.Digits.{Equals, size-le}
 use lib.Ieee.Fits.{round-fits, nearest-le, down-pos}
 use lib.Ieee.Bits.{ofBits-toBits}
@@ -17,7 +17,7 @@ use lib.Ieee.Order.{drop, kept}
 use lib.Ieee.Scale.{grid, overflow, finite, round-val}
 use lib.Ieee.Positive.{num, den, positive, den-pos}
 use Rattle.float.specs.declared.Rounded.the-variants.{Finite}
-use Rattle.float.specs.Inside.{fieldOf, placeAt, bitsOf, M, Q}
+use Rattle.float.specs.Inside.{fieldOf, placeAt, M, Q}
 use Rattle.float.specs.Finite.{rounded}
 use Rattle.float.specs.Root.{integerRoot, twiceRoot, rootOf}
 use Rattle.float.specs.Nearest.{notNegative, total, scale, RootBelowMiddle, RootAboveMiddle, NearestRoot}
@@ -44,7 +44,7 @@ units-of nan t p = absurd p
 units-of (inf s) t p = absurd p
 units-of (fin true m e) t p = absurd p
 units-of (fin false m e) t p =
-    let b = bitsOf (fin false m e) in
+    let b = toBits binary32 (fin false m e) in
     let d = decoded (fin false m e) t in
     (M b, Q b - 1, (significand-lt b, eq-of-mul-eq-mul-right 2 (pow-pos 1) (m * up e * 2 ^ 149) (M b * 2 ^ (Q b - 1) * down e) (mul-assoc (m * up e) (2 ^ 149) 2 ∙ ap (λ (k : ℕ). m * up e * k) (sym (pow-suc 2 149)) ∙ d .2 ∙ ap (λ (k : ℕ). M b * k * down e) (step (Q b) (place-pos b)) ∙ ap (λ (k : ℕ). k * down e) (sym (mul-assoc (M b) (2 ^ (Q b - 1)) 2)) ∙ mul-right-comm (M b * 2 ^ (Q b - 1)) 2 (down e))))
   where
@@ -181,7 +181,7 @@ number-of (inf s) t p = absurd p
 number-of (fin true m e) t p = absurd p
 number-of (fin false zero e) t p = absurd p
 number-of (fin false (suc k) e) t p =
-    let b = bitsOf (fin false (suc k) e) in
+    let b = toBits binary32 (fin false (suc k) e) in
     let d = decoded (fin false (suc k) e) t in
     let n = M b * 2 ^ (Q b + 150) in
     let q : suc k * up e * 2 ^ 300 / down e ≡ n = number k e (M b) (Q b) (d .2) in (

@@ -7,10 +7,10 @@ use mathlib.Core.Bool.{true, false, true≢false, false≢true}
 use lib.Dec.{T}
 use lib.Pow.{pow-add, pow-pos}
 use lib.IntN.{ℤ}
-use lib.Ieee.{Float, nan, inf, fin, binary32, up, down, round, fits}
+use lib.Ieee.{Float, nan, inf, fin, binary32, up, down, round, fits, toBits}
 use lib.Ieee.Fits.{up-pos, down-pos}
 use Rattle.float.specs.declared.Rounded.the-variants.{Finite, Nothing}
-use Rattle.float.specs.Inside.{fieldOf, signOf, bitsOf, M, Q}
+use Rattle.float.specs.Inside.{fieldOf, signOf, M, Q}
 use Rattle.float.specs.Finite.{rounded}
 use Rattle.float.specs.Root.{twiceRoot, rootOf}
 use Rattle.float.proofs.Decode.{Decoded, decoded}
@@ -18,11 +18,11 @@ use Rattle.float.proofs.Decode.{Decoded, decoded}
 clash : {X : Type 0} (x : ℕ) → x < 255 → x ≡ 255 → X
 clash x h e = absurd (lt-irrefl 255 (subst (λ (z : ℕ). z < 255) e h))
 
-pub no-root : (x : Float) → T (fits binary32 x) → fieldOf (bitsOf x) ≡ 255 → Nothing ≡ rootOf x
+pub no-root : (x : Float) → T (fits binary32 x) → fieldOf (toBits binary32 x) ≡ 255 → Nothing ≡ rootOf x
 unfolding rootOf
 no-root nan t e = refl
 no-root (inf s) t e = refl
-no-root (fin s m d) t e = clash (fieldOf (bitsOf (fin s m d))) (decoded (fin s m d) t .0) e
+no-root (fin s m d) t e = clash (fieldOf (toBits binary32 (fin s m d))) (decoded (fin s m d) t .0) e
 
 -- a zero has no significand, and nothing else has none
 zero-of : (e : ℤ) (m q : ℕ) → zero * up e * 2 ^ 150 ≡ m * 2 ^ q * down e → m ≡ 0

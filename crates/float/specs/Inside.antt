@@ -2,14 +2,10 @@
 use Prim.Native.Nat.{ℕ, zero, suc, _+_, _-_, _*_, _/_, _%_, _^_}
 use mathlib.Core.Bool.{Bool, _&&_, Bool·beq, cond}
 use lib.Dec.{leb, ltb, eqb}
-use lib.Ieee.{Float, binary32, unlike, sum, ofBits, toBits, isNan}
+use lib.Ieee.{binary32, unlike, sum, ofBits}
 use Rattle.float.specs.declared.Rounded.{Rounded}
 use Rattle.float.specs.declared.Rounded.the-variants.{Finite, Nothing}
 use Rattle.float.specs.Finite.{rounded}
-
--- the bits of x, with an infinity's for a NaN
-abbrev pub bitsOf : Float → ℕ
-bitsOf x = cond (isNan x) 2139095040 (toBits binary32 x)
 
 -- the exponent's field of a pattern, and the sign
 abbrev pub fieldOf : ℕ → ℕ

@@ -33,7 +33,7 @@ pub fn or_zero(r: Rounded) -> f32
 pub fn is_finite(x: f32) -> bool
     ensures { λ r. ⌜ r ≡ finite x ⌝ }
 {
-    bits::field(bits::bits_of(x)) != 255
+    bits::field(to_bits(x)) != 255
 }
 
 // The float of a pattern; every NaN's pattern is one NaN.
@@ -61,9 +61,9 @@ pub fn to_bits(x: f32) -> u32
 pub fn mul_add(a: f32, b: f32, c: f32) -> Rounded
     ensures { λ r. ⌜ r ≡ fusedOf a b c ⌝ }
 {
-    let x = bits::bits_of(a);
-    let y = bits::bits_of(b);
-    let z = bits::bits_of(c);
+    let x = to_bits(a);
+    let y = to_bits(b);
+    let z = to_bits(c);
     if bits::field(x) == 255 {
         return Rounded::Nothing;
     }
@@ -80,7 +80,7 @@ pub fn mul_add(a: f32, b: f32, c: f32) -> Rounded
 pub fn sqrt(x: f32) -> Rounded
     ensures { λ r. ⌜ r ≡ rootOf x ⌝ }
 {
-    let b = bits::bits_of(x);
+    let b = to_bits(x);
     if bits::field(b) == 255 {
         return Rounded::Nothing;
     }

@@ -1,7 +1,7 @@
 // The root of a finite float above zero: its significand brought to the top of the word, a whole root with a sticky digit, one rounding.
 ghost use mathlib.Core.Path.{_≡_};
 ghost use mathlib.Core.Bool.{false};
-ghost use Prim.Native.Nat.{ℕ, _+_, _-_, _*_, _/_, _%_, _^_, _≤_, _<_};
+ghost use Prim.Native.Nat.{_+_, _-_, _*_, _/_, _%_, _^_, _≤_, _<_};
 ghost use lib.IntN.{subℕ};
 ghost use lib.Ieee.{binary32, round};
 ghost use Rattle.float.specs.Finite.{rounded};
