@@ -16,6 +16,7 @@ use Rattle.dc_highpass.specs.Filter.{biasedOf, passOf, resultsOf, afterO
 use Rattle.dc_highpass.specs.declared.DcHighPassFilter.{DcHighPassFilter}
 use Rattle.dc_highpass.specs.declared.VadContext.{VadContext}
 use Rattle.dc_highpass.specs.declared.Refusal.{Refusal}
+use Rattle.dc_highpass.specs.declared.Processed.{Processed}
 use Rattle.lists.specs.Stores.{sets-append, sets-all}
 
 pub results-le : (f : DcHighPassFilter) (xs : List Float) → length (resultsOf f xs) ≤ length xs
@@ -64,34 +65,40 @@ written ys n out h k =
     let joined : sets out 0 (ys ++ zs) ≡ sets (sets out 0 ys) (length ys) zs = sets-append out 0 ys zs ∙ rw (zero-add (length ys)) in
     sym joined ∙ sets-all out (ys ++ zs) (omega arith) ∙ rw (long, append-assoc ys zs (drop n out))
 
+-- ---- a block that is taken
+
+module _ (given f : DcHighPassFilter) (xs : List Float) (n : ℕ) (c : n ≡ length (resultsOf f xs)) where
+  pub ran-stuck : n < length xs → record { refusal = refused 26 n; filter = given } ≡ ranOf given f xs
+  unfolding ranOf
+  ran-stuck l = rw (← c, lt-ltb n (length xs) l)
+
+  pub ran-done : length xs ≤ n → (h : DcHighPassFilter) → h ≡ afterOf f xs → record { refusal = refused 0 0; filter = h } ≡ ranOf given f xs
+  unfolding ranOf
+  ran-done l h a = rw (← a, ← c, le-ltb n (length xs) l)
+
+  module _ (out mid : List Float) (room : length xs ≤ length out) (ran : mid ≡ sets out 0 (resultsOf f xs)) where
+    pub written-stuck : (last : List Float) → last ≡ sets mid n (replicate (length xs - n) zero) → last ≡ writtenOf (resultsOf f xs) (length xs) out
+    written-stuck last e = e ∙ rw (ran, c) (written (resultsOf f xs) (length xs) out (results-le f xs) room)
+
+    pub written-done : length xs ≤ n → mid ≡ writtenOf (resultsOf f xs) (length xs) out
+    written-done l = let none : length xs - n ≡ 0 = omega arith in written-stuck mid (rw none)
+
+-- ---- the whole call
+
 module _ (f : DcHighPassFilter) (xs : List Float) (label : VadContext) (room : ℕ) (r : Refusal) (e : r ≡ checkOf f xs room) where
   pub answer-refused : (r .number ≡ 0 → ⊥) → record { refusal = r; filter = f } ≡ processOf f xs label room
   unfolding processOf
   answer-refused z = rw (← e, ne-eqb (r .number) 0 z)
 
-  module _ (z : r .number ≡ 0) (g : DcHighPassFilter) (b : g ≡ biasedOf f xs label) (n : ℕ) (c : n ≡ length (resultsOf g xs)) where
-    pub answer-stuck : n < length xs → record { refusal = refused 26 n; filter = f } ≡ processOf f xs label room
-    unfolding processOf ranOf
-    answer-stuck l = rw (← e, z, ← b, ← c, lt-ltb n (length xs) l)
-
-    pub answer-done : length xs ≤ n → (h : DcHighPassFilter) → h ≡ afterOf g xs → record { refusal = r; filter = h } ≡ processOf f xs label room
-    unfolding processOf ranOf
-    answer-done l h a =
-        let none = checked f xs room (ap (λ (q : Refusal). q .number) (sym e) ∙ z) .none in
-        rw (← b, ← a, ← c, le-ltb n (length xs) l, none, e ∙ none)
+  pub answer-ran : r .number ≡ 0 → (g : DcHighPassFilter) → g ≡ biasedOf f xs label → (p : Processed) → p ≡ ranOf f g xs → p ≡ processOf f xs label room
+  unfolding processOf
+  answer-ran z g b p h = h ∙ rw (← e, z, b)
 
 module _ (f : DcHighPassFilter) (xs : List Float) (label : VadContext) (out : List Float) where
   pub output-refused : (checkOf f xs (length out) .number ≡ 0 → ⊥) → out ≡ outputAfter f xs label out
   unfolding outputAfter
   output-refused z = rw (ne-eqb (checkOf f xs (length out) .number) 0 z)
 
-  module _ (z : checkOf f xs (length out) .number ≡ 0) (g : DcHighPassFilter) (b : g ≡ biasedOf f xs label) (n : ℕ) (c : n ≡ length (resultsOf g xs)) (mid : List Float) (ran : mid ≡ sets out 0 (resultsOf g xs)) where
-    at-written : writtenOf (resultsOf g xs) (length xs) out ≡ outputAfter f xs label out
-    unfolding outputAfter
-    at-written = rw (z, b)
-
-    pub output-stuck : (last : List Float) → last ≡ sets mid n (replicate (length xs - n) zero) → last ≡ outputAfter f xs label out
-    output-stuck last e = e ∙ rw (ran, c) (written (resultsOf g xs) (length xs) out (results-le g xs) (checked f xs (length out) z .fits) ∙ at-written)
-
-    pub output-done : length xs ≤ n → mid ≡ outputAfter f xs label out
-    output-done l = let none : length xs - n ≡ 0 = omega arith in output-stuck mid (rw none)
+  pub output-ran : checkOf f xs (length out) .number ≡ 0 → (g : DcHighPassFilter) → g ≡ biasedOf f xs label → (last : List Float) → last ≡ writtenOf (resultsOf g xs) (length xs) out → last ≡ outputAfter f xs label out
+  unfolding outputAfter
+  output-ran z g b last h = h ∙ rw (z, b)

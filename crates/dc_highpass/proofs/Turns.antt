@@ -1,4 +1,4 @@
--- One turn of each loop, over plain lists. Assumes nothing.
+-- One turn of each loop, and the ways through an opening and the bias, over plain variables. Assumes nothing.
 use mathlib.Core.Path.{_≡_, refl, _∙_}
 use mathlib.Core.Bool.{true, false}
 use mathlib.Core.List.{List, [], _∷_}
@@ -10,9 +10,10 @@ use lib.Seq.{drop-cons, sets}
 use Rattle.lists.specs.Stores.{sets-cons}
 use lib.Ieee.{Float, nan, binary32, add}
 use lib.Ieee.Scale.{finite}
-use Rattle.dc_highpass.specs.Filter.{coefficientsOf, freshOf, nothingOpen, openOf, isEmpty, sumFrom, cleanOf, inDomain, passOf, resultsOf, afterOf}
+use Rattle.dc_highpass.specs.Filter.{coefficientsOf, freshOf, nothingOpen, openOf, isEmpty, listens, biasOf, biasedOf, sumFrom, cleanOf, inDomain, passOf, resultsOf, afterOf}
 use Rattle.dc_highpass.specs.declared.DcHighPassFilter.{DcHighPassFilter}
 use Rattle.dc_highpass.specs.declared.PreprocessingConfig.{PreprocessingConfig}
+use Rattle.dc_highpass.specs.declared.VadContext.{VadContext}
 use Rattle.dc_highpass.specs.Settings.{refusalOf}
 use borrow.Author.Tests.{ne-eqb}
 
@@ -62,10 +63,6 @@ module _ (i : ℕ) (xs : List Float) (h : i < length xs) where
     unfolding resultsOf
     results-stop d = rw (drop-cons xs i nan, d)
 
-    pub after-stop : finite (passOf f (getD xs i nan) .output) ≡ false → afterOf f (drop i xs) ≡ f
-    unfolding afterOf
-    after-stop d = rw (drop-cons xs i nan, d)
-
 -- ---- what is written
 
 pub clear-step : (l : List Float) (i n : ℕ) (z : Float) → i < n → sets (set l i z) (i + 1) (replicate (n - (i + 1)) z) ≡ sets l i (replicate (n - i) z)
@@ -83,6 +80,27 @@ empty-of (x ∷ xs) h = absurd (omega arith)
 pub filled-of : (xs : List Float) → (length xs ≡ 0 → ⊥) → isEmpty xs ≡ false
 filled-of [] h = absurd (h refl)
 filled-of (x ∷ xs) h = refl
+
+-- ---- the bias, kept or new
+
+module _ (f : DcHighPassFilter) (xs : List Float) (label : VadContext) where
+  pub bias-off : f .config .«enable_dc_removal» ≡ false → f ≡ biasedOf f xs label
+  unfolding biasedOf
+  bias-off e = rw e
+
+  module _ (e : f .config .«enable_dc_removal» ≡ true) where
+    pub bias-empty : isEmpty xs ≡ true → f ≡ biasedOf f xs label
+    unfolding biasedOf
+    bias-empty z = rw (e, z)
+
+    module _ (z : isEmpty xs ≡ false) where
+      pub bias-speech : listens label ≡ false → f ≡ biasedOf f xs label
+      unfolding biasedOf
+      bias-speech l = rw (e, z, l)
+
+      pub bias-new : listens label ≡ true → (y : Float) → y ≡ biasOf (f .config .«dc_bias_alpha») (f .«dc_bias») xs → record { config = f .config; first = f .first; second = f .second; «dc_bias» = y } ≡ biasedOf f xs label
+      unfolding biasedOf
+      bias-new l y b = rw (e, z, l, b)
 
 -- ---- an opening, taken or refused
 

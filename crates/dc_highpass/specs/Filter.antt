@@ -102,6 +102,9 @@ stepped b x = record { coeffs = b .coeffs; state = nextOf (b .coeffs) (b .state)
 abbrev pub heard : Biquad → Float → Float
 heard b x = outputOf (b .coeffs) (b .state) x
 
+unfoldable pub passedOf : DcHighPassFilter → Biquad → Biquad → Float → Passed
+passedOf f first second y = record { filter = record { config = f .config; first = first; second = second; «dc_bias» = f .«dc_bias» }; output = y }
+
 -- 'passes the stages in order'; 'second order never reads the second'
 unfoldable pub stagedBy : HighpassOrder → DcHighPassFilter → Float → Passed
 stagedBy SecondOrder f x =

@@ -30,21 +30,15 @@ pub struct Stepped {
     pub output: f32,
 }
 
-// A NaN for the word that there is no number: it goes through every later operation, so that one test at the sample's end finds it.
-fn or_nan(r: float::Rounded) -> f32
-    ensures { λ x. ⌜ x ≡ orNan r ⌝ }
+// a * b + c, rounded once. A NaN where that is not a finite number: it goes through every later operation, so that one test at the sample's end finds it.
+pub fn fused(a: f32, b: f32, c: f32) -> f32
+    ensures { λ r. ⌜ r ≡ orNan (fusedOf a b c) ⌝ }
 {
+    let r = float::mul_add(a, b, c);
     match r {
         float::Rounded::Finite(x) => x,
         float::Rounded::Nothing => 0.0 / 0.0,
     }
-}
-
-// a * b + c, rounded once; a NaN where that is not a finite number.
-pub fn fused(a: f32, b: f32, c: f32) -> f32
-    ensures { λ r. ⌜ r ≡ orNan (fusedOf a b c) ⌝ }
-{
-    or_nan(float::mul_add(a, b, c))
 }
 
 // `Biquad::process` by value.

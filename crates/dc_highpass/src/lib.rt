@@ -7,7 +7,7 @@ ghost use Prim.Native.Nat.{_+_, _-_, _≤_};
 ghost use lib.ListN.{length, replicate};
 ghost use lib.Seq.{sets};
 ghost use lib.Ieee.{binary32, ofBits, neg};
-ghost use Rattle.dc_highpass.specs.Filter.{coefficientsOf, freshOf, nothingOpen, openOf, listens, sumFrom, meanOf, biasedOf, centredOf, stagedBy, passOf, resultsOf, afterOf, inDomain, cleanOf, refused, checkOf, processOf, outputAfter, resetOf, biasRead};
+ghost use Rattle.dc_highpass.specs.Filter.{coefficientsOf, freshOf, nothingOpen, openOf, listens, sumFrom, meanOf, biasedOf, centredOf, stepped, heard, passedOf, stagedBy, passOf, resultsOf, inDomain, cleanOf, refused, checkOf, ranOf, writtenOf, processOf, outputAfter, resetOf, biasRead};
 use biquad::Biquad;
 use biquad::BiquadCoefficients;
 use biquad::BiquadState;
@@ -74,10 +74,10 @@ pub struct Passed {
     pub output: f32,
 }
 
-// How many samples of a block had a result, and the filter after them.
-struct Ran {
-    pub filter: DcHighPassFilter,
-    pub count: usize,
+// A stage after one sample, and its output.
+struct Moved {
+    pub stage: Biquad,
+    pub output: f32,
 }
 
 fn coefficients(a: [f32; 5]) -> BiquadCoefficients
@@ -164,17 +164,14 @@ pub fn open(config: PreprocessingConfig, stages: [[f32; 5]; 2]) -> Opened
 }
 
 // Clears what the filter remembers, before a new stream.
-pub fn reset(filter: DcHighPassFilter) -> Opened
+pub fn reset(mut filter: DcHighPassFilter) -> Opened
     ensures { λ r. ⌜ r ≡ resetOf filter ⌝ }
 {
     if sound(filter) {
-        let config = filter.config;
         let first = filter.first;
         let second = filter.second;
-        return Opened {
-            refusal: 0,
-            filter: fresh(config, first.coeffs, second.coeffs),
-        };
+        filter = fresh(filter.config, first.coeffs, second.coeffs);
+        return Opened { refusal: 0, filter };
     }
     Opened {
         refusal: 27,
@@ -229,7 +226,7 @@ fn listening(context: VadContext) -> bool
 
 // Speech must not leak into the estimate of the bias, so a block that is labelled speech leaves it alone.
 fn update_dc_bias(
-    filter: DcHighPassFilter,
+    mut filter: DcHighPassFilter,
     samples: &[f32],
     context: VadContext,
 ) -> DcHighPassFilter
@@ -245,9 +242,8 @@ fn update_dc_bias(
         return filter;
     }
     let alpha = filter.config.dc_bias_alpha;
-    let mut updated = filter;
-    updated.dc_bias = biquad::fused(alpha, filter.dc_bias, (1.0 - alpha) * mean(samples));
-    updated
+    filter.dc_bias = biquad::fused(alpha, filter.dc_bias, (1.0 - alpha) * mean(samples));
+    filter
 }
 
 fn centred(filter: DcHighPassFilter, sample: f32) -> f32
@@ -259,40 +255,44 @@ fn centred(filter: DcHighPassFilter, sample: f32) -> f32
     sample
 }
 
+// One stage's `Biquad::process` by value.
+fn advance(stage: Biquad, input: f32) -> Moved
+    ensures { λ r. ⌜ (r .stage ≡ stepped stage input) × (r .output ≡ heard stage input) ⌝ }
+{
+    let one = biquad::step(stage.state, stage.coeffs, input);
+    let coeffs = stage.coeffs;
+    let state = one.state;
+    Moved {
+        stage: Biquad { coeffs, state },
+        output: one.output,
+    }
+}
+
+// The filter with new stages, beside the sample's result.
+fn with_stages(mut filter: DcHighPassFilter, first: Biquad, second: Biquad, output: f32) -> Passed
+    ensures { λ r. ⌜ r ≡ passedOf filter first second output ⌝ }
+{
+    let config = filter.config;
+    let dc_bias = filter.dc_bias;
+    filter = DcHighPassFilter {
+        config,
+        first,
+        second,
+        dc_bias,
+    };
+    Passed { filter, output }
+}
+
 // Through the stages in order.
 fn staged(order: HighpassOrder, filter: DcHighPassFilter, input: f32) -> Passed
     ensures { λ r. ⌜ r ≡ stagedBy order filter input ⌝ }
 {
-    let config = filter.config;
-    let first = filter.first;
-    let second = filter.second;
-    let one = biquad::step(first.state, first.coeffs, input);
-    let coeffs = first.coeffs;
-    let state = one.state;
-    let moved = Biquad { coeffs, state };
+    let first = advance(filter.first, input);
     match order {
-        HighpassOrder::SecondOrder => Passed {
-            filter: DcHighPassFilter {
-                config,
-                first: moved,
-                second,
-                dc_bias: filter.dc_bias,
-            },
-            output: one.output,
-        },
+        HighpassOrder::SecondOrder => with_stages(filter, first.stage, filter.second, first.output),
         HighpassOrder::FourthOrder => {
-            let two = biquad::step(second.state, second.coeffs, one.output);
-            let coeffs = second.coeffs;
-            let state = two.state;
-            Passed {
-                filter: DcHighPassFilter {
-                    config,
-                    first: moved,
-                    second: Biquad { coeffs, state },
-                    dc_bias: filter.dc_bias,
-                },
-                output: two.output,
-            }
+            let second = advance(filter.second, first.output);
+            with_stages(filter, first.stage, second.stage, second.output)
         }
     }
 }
@@ -365,29 +365,6 @@ fn check(filter: DcHighPassFilter, samples: &[f32], room: usize) -> Refusal
     }
 }
 
-// Writes the results up to the first that isn't finite, and says how many they are.
-fn run(filter: DcHighPassFilter, samples: &[f32], output: &mut [f32]) -> Ran
-    requires { ⌜ length (now samples) ≤ length (now output) ⌝ }
-    ensures { λ r. ⌜ (r .count ≡ length (resultsOf filter (now (samples .entry)))) × (r .filter ≡ afterOf filter (now (samples .entry))) ⌝ }
-    ensures { λ _. ⌜ now (output .exit) ≡ sets (now (output .entry)) 0 (resultsOf filter (now (samples .entry))) ⌝ }
-{
-    let mut f = filter;
-    let mut i = 0;
-    while i < samples.len() {
-        let passed = pass(f, samples[i]);
-        if !float::is_finite(passed.output) {
-            break;
-        }
-        output[i] = passed.output;
-        f = passed.filter;
-        i += 1;
-    }
-    Ran {
-        filter: f,
-        count: i,
-    }
-}
-
 // Zeros from one place up to another.
 fn clear(output: &mut [f32], from: usize, end: usize)
     requires { ⌜ (from ≤ end) × (end ≤ length (now output)) ⌝ }
@@ -400,14 +377,38 @@ fn clear(output: &mut [f32], from: usize, end: usize)
     }
 }
 
-// 26: the state is the one given.
-fn stuck(given: DcHighPassFilter, place: usize) -> Processed
-    ensures { λ r. ⌜ r ≡ record { refusal = refused 26 place; filter = given } ⌝ }
+fn answer(number: u32, place: usize, filter: DcHighPassFilter) -> Processed
+    ensures { λ r. ⌜ r ≡ record { refusal = refused number place; filter = filter } ⌝ }
 {
     Processed {
-        refusal: Refusal { number: 26, place },
-        filter: given,
+        refusal: Refusal { number, place },
+        filter,
     }
+}
+
+// The samples in order. One without a finite result ends the block by 26: zeros stand from its place on, and the state is the one given.
+fn run(
+    given: DcHighPassFilter,
+    mut filter: DcHighPassFilter,
+    samples: &[f32],
+    output: &mut [f32],
+) -> Processed
+    requires { ⌜ length (now samples) ≤ length (now output) ⌝ }
+    ensures { λ r. ⌜ r ≡ ranOf given filter (now (samples .entry)) ⌝ }
+    ensures { λ _. ⌜ now (output .exit) ≡ writtenOf (resultsOf filter (now (samples .entry))) (length (now (samples .entry))) (now (output .entry)) ⌝ }
+{
+    let mut i = 0;
+    while i < samples.len() {
+        let passed = pass(filter, samples[i]);
+        if !float::is_finite(passed.output) {
+            clear(output, i, samples.len());
+            return answer(26, i, given);
+        }
+        output[i] = passed.output;
+        filter = passed.filter;
+        i += 1;
+    }
+    answer(0, 0, filter)
 }
 
 // Filters one block into the lent output. A refusal hands the state back; only 26 has written, and then zeros stand from its place to the block's length.
@@ -422,14 +423,8 @@ pub fn process(
 {
     let refusal = check(filter, samples, output.len());
     if refusal.number != 0 {
-        return Processed { refusal, filter };
+        return answer(refusal.number, refusal.place, filter);
     }
     let biased = update_dc_bias(filter, samples, context);
-    let ran = run(biased, samples, output);
-    if ran.count < samples.len() {
-        clear(output, ran.count, samples.len());
-        return stuck(filter, ran.count);
-    }
-    let filter = ran.filter;
-    Processed { refusal, filter }
+    run(filter, biased, samples, output)
 }

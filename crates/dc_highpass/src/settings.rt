@@ -127,10 +127,9 @@ fn remembers_finite(s: BiquadState) -> bool
 pub fn sound(filter: DcHighPassFilter) -> bool
     ensures { λ r. ⌜ r ≡ soundOf filter ⌝ }
 {
-    let config = filter.config;
     let first = filter.first;
     let second = filter.second;
-    if validate(config, first.coeffs, second.coeffs) != 0 {
+    if validate(filter.config, first.coeffs, second.coeffs) != 0 {
         return false;
     }
     if !float::is_finite(filter.dc_bias) {

@@ -12,7 +12,7 @@ fresh-requires c κs = search needs
 
 returns : tie.Need-returns
 unfolding resetOf
-returns c = simp (sym (c .before .before .before .before .before .sound .ensures) ∙ c .before .before .before .before .if1 .taken, c .fresh .ensures)
+returns c = simp (sym (c .before .before .before .before .sound .ensures) ∙ c .before .before .before .if1 .taken, c .fresh .ensures)
 
 returns-2 : tie.Need-returns-2
 unfolding resetOf
