@@ -1,12 +1,13 @@
 -- What an entry point does with a state that cannot be read, and with one that can, over plain lists. Assumes nothing.
 use mathlib.Core.Path.{_≡_, refl, _∙_}
-use mathlib.Core.Bool.{Bool, true, false, _&&_}
+use mathlib.Core.Bool.{Bool, true, false, _&&_, cond}
 use mathlib.Core.List.{List, [], _∷_}
 use Prim.Native.Nat.{ℕ, _≤_, _<_}
 use native.Mathlib.Omega.{arith}
+use lib.Dec.{eqb}
 use lib.ListN.{length}
 use lib.Ieee.{Float}
-use borrow.Author.Tests.{leb-true, lt-ltb, le-ltb, ne-eqb}
+use borrow.Author.Tests.{leb-true, lt-ltb, le-ltb}
 use Rattle.dc_highpass.specs.Filter.{openOf, nothingOpen, processOf, outputAfter, resetOf, biasRead}
 use Rattle.dc_highpass.specs.declared.DcHighPassFilter.{DcHighPassFilter}
 use Rattle.dc_highpass.specs.declared.PreprocessingConfig.{PreprocessingConfig}
@@ -15,8 +16,7 @@ use Rattle.dc_highpass.specs.declared.Opened.{Opened}
 use Rattle.dc_highpass.specs.declared.Processed.{Processed}
 use Rattle.dc_highpass.specs.declared.Reading.{Reading}
 use Rattle.hub.specs.FilterState.{filterAt, readable, written, wordOf}
-use Rattle.hub.specs.FilterDoor.{packed, fiveAt, openedOf, openAnswer, openState, processAnswer, processState, processOutput, resetAnswer, resetState, biasAnswer}
-use Rattle.hub.proofs.Places.{place-none}
+use Rattle.hub.specs.FilterDoor.{packed, fiveAt, openedOf, openAnswer, openState, processAnswer, processState, processOutput, resetAnswer, resetState, clearedOf, biasAnswer}
 
 first : (a b : Bool) → a && b ≡ true → a ≡ true
 first true b h = refl
@@ -45,10 +45,10 @@ module _ (c : PreprocessingConfig) (xs : List Float) where
     unfolding openAnswer openState
     open-short h = let t = lt-ltb (length ws) 25 h in (rw t, rw t)
 
-    pub open-written : 25 ≤ length ws → (o : Opened) → o ≡ openedOf c xs → (a : ℕ) → a ≡ packed (o .refusal) 0 → (new : List ℕ) → new ≡ written (o .filter) ws
-        → (a ≡ openAnswer c xs ws) × (new ≡ openState c xs ws)
+    pub open-written : 25 ≤ length ws → (o : Opened) → o ≡ openedOf c xs → (new : List ℕ) → new ≡ written (o .filter) ws
+        → (o .refusal ≡ openAnswer c xs ws) × (new ≡ openState c xs ws)
     unfolding openAnswer openState
-    open-written h o e a p new w = let t = le-ltb (length ws) 25 h in (p ∙ packed-none (o .refusal) ∙ rw (t, e), w ∙ rw (t, e))
+    open-written h o e new w = let t = le-ltb (length ws) 25 h in (rw (t, e), w ∙ rw (t, e))
 
 -- ---- reset, and the bias read
 
@@ -57,14 +57,10 @@ module _ (ws : List ℕ) where
   unfolding resetAnswer resetState
   reset-unread bad = (rw bad, rw bad)
 
-  module _ (good : readable ws ≡ true) (r : Opened) (e : r ≡ resetOf (filterAt ws)) where
-    pub reset-done : r .refusal ≡ 0 → (new : List ℕ) → new ≡ written (r .filter) ws → (0 ≡ resetAnswer ws) × (new ≡ resetState ws)
-    unfolding resetAnswer resetState
-    reset-done z new w = (rw (good, ← e, z), w ∙ rw (good, ← e, z))
-
-    pub reset-refused : (r .refusal ≡ 0 → ⊥) → (a : ℕ) → a ≡ packed (r .refusal) 0 → (a ≡ resetAnswer ws) × (ws ≡ resetState ws)
-    unfolding resetAnswer resetState
-    reset-refused z a p = (p ∙ packed-none (r .refusal) ∙ rw (good, ← e), rw (good, ← e, ne-eqb (r .refusal) 0 z))
+  pub reset-kept : readable ws ≡ true → (p : Processed) → p ≡ clearedOf (filterAt ws) → (a : ℕ) → a ≡ packed (p .refusal .number) (p .refusal .place) → (new : List ℕ) → new ≡ cond (eqb (p .refusal .number) 0) (written (p .filter) ws) ws
+      → (a ≡ resetAnswer ws) × (new ≡ resetState ws)
+  unfolding resetAnswer resetState
+  reset-kept good p e a q new w = (q ∙ rw (good, e) (packed-none (resetOf (filterAt ws) .refusal)), w ∙ rw (good, e))
 
   pub bias-unread : readable ws ≡ false → 27 ≡ biasAnswer ws
   unfolding biasAnswer
@@ -91,14 +87,7 @@ module _ (ws : List ℕ) (xs : List Float) (label : VadContext) where
     unfolding processOutput
     output-read out new e = e ∙ rw good
 
-    module _ (room : ℕ) (p : Processed) (e : p ≡ processOf (filterAt ws) xs label room) where
-      pub process-done : p .refusal .number ≡ 0 → (new : List ℕ) → new ≡ written (p .filter) ws → (0 ≡ processAnswer ws xs label room) × (new ≡ processState ws xs label room)
-      unfolding processAnswer processState
-      process-done z new w =
-          let none = place-none (filterAt ws) xs label room in
-          let n : p .refusal .number ≡ 0 → p .refusal .place ≡ 0 = rw e none in
-          (rw (good, ← e, z, n z), w ∙ rw (good, ← e, z))
-
-      pub process-refused : (p .refusal .number ≡ 0 → ⊥) → (a : ℕ) → a ≡ packed (p .refusal .number) (p .refusal .place) → (a ≡ processAnswer ws xs label room) × (ws ≡ processState ws xs label room)
-      unfolding processAnswer processState
-      process-refused z a q = (q ∙ rw (good, ← e), rw (good, ← e, ne-eqb (p .refusal .number) 0 z))
+    pub process-kept : (room : ℕ) (p : Processed) → p ≡ processOf (filterAt ws) xs label room → (a : ℕ) → a ≡ packed (p .refusal .number) (p .refusal .place) → (new : List ℕ) → new ≡ cond (eqb (p .refusal .number) 0) (written (p .filter) ws) ws
+        → (a ≡ processAnswer ws xs label room) × (new ≡ processState ws xs label room)
+    unfolding processAnswer processState
+    process-kept room p e a q new w = (q ∙ rw (good, e), w ∙ rw (good, e))

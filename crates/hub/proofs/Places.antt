@@ -53,7 +53,3 @@ module _ (f : DcHighPassFilter) (xs : List Float) (label : VadContext) (room : �
   pub place-small : processOf f xs label room .refusal .place ≤ 1024
   unfolding processOf
   place-small = shape (eqb (checkOf f xs room .number) 0) refl .0
-
-  pub place-none : processOf f xs label room .refusal .number ≡ 0 → processOf f xs label room .refusal .place ≡ 0
-  unfolding processOf
-  place-none = shape (eqb (checkOf f xs room .number) 0) refl .1

@@ -1,39 +1,41 @@
 -- Words put one after the other are a list put at once. Assumes nothing.
-use mathlib.Core.Path.{_≡_, sym}
+use mathlib.Core.Path.{_≡_, refl}
+use mathlib.Core.Bool.{Bool, true, false}
 use mathlib.Core.List.{List, [], _∷_}
-use Prim.Native.Nat.{ℕ, suc, _+_, _≤_}
+use Prim.Native.Nat.{ℕ, zero, suc, _+_, _≤_, _<_}
 use native.Mathlib.Omega.{arith}
-use lib.ListN.{length, set}
+use lib.ListN.{length, drop, getD, set, drop-of-length-le}
+use mir.Val.{boolByte}
 use lib.Seq.{sets}
-use Rattle.lists.specs.Stores.{sets-append, sets-all}
-use Rattle.dc_highpass.specs.declared.biquad.Biquad.{Biquad}
+use Rattle.lists.specs.Stores.{sets-cons, sets-all}
 use Rattle.dc_highpass.specs.declared.DcHighPassFilter.{DcHighPassFilter}
-use Rattle.hub.specs.FilterState.{wordOf, configWords, coefficientWords, memoryWords, stageWords, wordsOf, written}
+use Rattle.hub.specs.FilterState.{flagWord, configWords, coefficientWords, memoryWords, stageWords, wordsOf, written}
 
-module _ (l : List ℕ) (i a b c d : ℕ) where
-  e1 : i + 1 ≡ suc i
-  e1 = omega arith
+-- by parts: `rw` would look for each of 25 words in the whole goal
+pub next : {x y : ℕ} {xs ys : List ℕ} → x ≡ y → xs ≡ ys → x ∷ xs ≡ y ∷ ys
+next h k = rw (h, k)
 
-  e2 : i + 2 ≡ suc (suc i)
-  e2 = omega arith
+-- a Bool cast to a number
+pub flag-byte : (b : Bool) → boolByte b ≡ flagWord b
+flag-byte true = refl
+flag-byte false = refl
 
-  e3 : i + 3 ≡ suc (suc (suc i))
-  e3 = omega arith
+drop-next : (new : List ℕ) (i : ℕ) → i < length new → drop i new ≡ getD new i 0 ∷ drop (suc i) new
+drop-next [] i h = absurd (omega arith)
+drop-next (x ∷ new) zero h = refl
+drop-next (x ∷ new) (suc i) h = drop-next new i (omega arith)
 
-  e4 : i + 4 ≡ suc (suc (suc (suc i)))
-  e4 = omega arith
+module _ (l new : List ℕ) (at i : ℕ) where
+  -- one turn of the loop
+  pub put-step : i < length new → sets (set l (at + i) (getD new i 0)) (at + (i + 1)) (drop (i + 1) new) ≡ sets l (at + i) (drop i new)
+  put-step h =
+      let one : i + 1 ≡ suc i = omega arith in
+      let next : at + suc i ≡ at + i + 1 = omega arith in
+      rw (one, next, drop-next new i h) (sets-cons l (at + i) (getD new i 0) (drop (suc i) new))
 
-  pub four-put : set (set (set (set l i a) (i + 1) b) (i + 2) c) (i + 3) d ≡ sets l i (a ∷ b ∷ c ∷ d ∷ [])
-  four-put = rw (e1, e2, e3)
+  pub put-end : length new ≤ i → sets l (at + i) (drop i new) ≡ l
+  put-end h = rw (drop-of-length-le new h)
 
-  pub five-put : (e : ℕ) → set (set (set (set (set l i a) (i + 1) b) (i + 2) c) (i + 3) d) (i + 4) e ≡ sets l i (a ∷ b ∷ c ∷ d ∷ e ∷ [])
-  five-put e = rw (e1, e2, e3, e4)
-
-pub stage-put : (l : List ℕ) (i : ℕ) (b : Biquad) → sets (sets l i (coefficientWords (b .coeffs))) (i + 5) (memoryWords (b .state)) ≡ sets l i (stageWords b)
-unfolding stageWords coefficientWords
-stage-put l i b = sym (sets-append l i (coefficientWords (b .coeffs)) (memoryWords (b .state)))
-
-pub filter-put : (l : List ℕ) (f : DcHighPassFilter) → 25 ≤ length l
-    → set (sets (sets (sets l 0 (configWords (f .config))) 6 (stageWords (f .first))) 15 (stageWords (f .second))) 24 (wordOf (f .«dc_bias»)) ≡ written f l
+pub filter-put : (l : List ℕ) (f : DcHighPassFilter) → 25 ≤ length l → sets l 0 (wordsOf f) ≡ written f l
 unfolding written wordsOf configWords stageWords coefficientWords memoryWords
 filter-put l f h = sets-all l (wordsOf f) h

@@ -6,7 +6,7 @@ use Prim.Native.Nat.{ℕ}
 use native.Mathlib.Omega.{arith}
 use lib.Dec.{T, leb, eqb}
 use lib.ListN.{length, drop, replicate}
-use lib.Ieee.{Float, nan, inf, fin, binary32, ofBits, toBits, isNan, fits}
+use lib.Ieee.{Float, binary32, ofBits, toBits, isNan, fits}
 use lib.Ieee.Bits.{ofBits-toBits, ofBits-fits}
 use borrow.Author.Tests.{le-leb}
 use Rattle.dc_highpass.specs.Filter.{nothingOpen, freshOf}
@@ -42,15 +42,8 @@ pub record FilterFits (f : DcHighPassFilter) : Type 0 where
 
 -- ---- one word
 
-nan-back : ofBits binary32 0x7FC0_0000 ≡ nan
-unfolding ofBits
-nan-back = refl
-
 word-back : (x : Float) → Fit x → ofBits binary32 (wordOf x) ≡ x
-unfolding isNan
-word-back nan h = nan-back
-word-back (inf s) h = ofBits-toBits binary32 (inf s) h
-word-back (fin s m e) h = ofBits-toBits binary32 (fin s m e) h
+word-back x h = ofBits-toBits binary32 x h
 
 flag-back : (b : Bool) → eqb (flagWord b) 1 ≡ b
 flag-back true = refl

@@ -5,11 +5,13 @@ use Prim.Native.Nat.{ℕ, _+_, _*_}
 use lib.Dec.{ltb, eqb}
 use lib.ListN.{length, getD}
 use lib.Ieee.{Float, nan}
-use Rattle.dc_highpass.specs.Filter.{openOf, nothingOpen, processOf, outputAfter, resetOf, biasRead}
+use Rattle.dc_highpass.specs.Filter.{openOf, nothingOpen, refused, processOf, outputAfter, resetOf, biasRead}
 use Rattle.dc_highpass.specs.declared.VadContext.{VadContext}
 use Rattle.dc_highpass.specs.declared.VadContext.the-variants.{Unlabelled, Silence, Speech}
 use Rattle.dc_highpass.specs.declared.PreprocessingConfig.{PreprocessingConfig}
+use Rattle.dc_highpass.specs.declared.DcHighPassFilter.{DcHighPassFilter}
 use Rattle.dc_highpass.specs.declared.Opened.{Opened}
+use Rattle.dc_highpass.specs.declared.Processed.{Processed}
 use Rattle.hub.specs.FilterState.{filterAt, readable, written, orderOf, wordOf}
 
 -- the refusal's number, 0 for none, and above its 32 bits what it carries
@@ -74,6 +76,10 @@ unfoldable pub resetState : List ℕ → List ℕ
 resetState ws =
     let r = resetOf (filterAt ws) in
     cond (readable ws && eqb (r .refusal) 0) (written (r .filter) ws) ws
+
+-- a reset's answer in the form of a block's, which carries a place
+abbrev pub clearedOf : DcHighPassFilter → Processed
+clearedOf f = record { refusal = refused (resetOf f .refusal) 0; filter = resetOf f .filter }
 
 -- a refused reading's value is 0, and so are its bits
 unfoldable pub biasAnswer : List ℕ → ℕ

@@ -2,12 +2,12 @@
 --   0 cutoff, 1 rate, 2 alpha, 3 removal on, 4 high-pass on, 5 order (0 second, 1 fourth)
 --   6 to 14 stage one, 15 to 23 stage two: b0 b1 b2 a1 a2, then x1 x2 y1 y2
 --   24 the bias
-use mathlib.Core.Bool.{Bool, true, false, _&&_, cond}
+use mathlib.Core.Bool.{Bool, true, false, _&&_}
 use mathlib.Core.List.{List, [], _∷_, _++_}
 use Prim.Native.Nat.{ℕ, _+_}
 use lib.Dec.{leb, eqb}
 use lib.ListN.{length, drop, getD}
-use lib.Ieee.{Float, binary32, ofBits, toBits, isNan}
+use lib.Ieee.{Float, binary32, ofBits, toBits}
 use Rattle.dc_highpass.specs.declared.biquad.Biquad.{Biquad}
 use Rattle.dc_highpass.specs.declared.biquad.BiquadCoefficients.{BiquadCoefficients}
 use Rattle.dc_highpass.specs.declared.biquad.BiquadState.{BiquadState}
@@ -60,7 +60,7 @@ readable ws = leb 25 (length ws) && (leb (getD ws 3 0) 1 && (leb (getD ws 4 0) 1
 
 -- every NaN has the same word
 abbrev pub wordOf : Float → ℕ
-wordOf x = cond (isNan x) 0x7FC0_0000 (toBits binary32 x)
+wordOf x = toBits binary32 x
 
 abbrev pub flagWord : Bool → ℕ
 flagWord false = 0

@@ -1,19 +1,25 @@
 // The filter's door. The host keeps the state as words, 25 of them, whose layout specs/FilterState.antt says; every input is answered.
 // An answer is the refusal's number, 0 for none, and above its 32 bits what it carries.
 ghost use mathlib.Core.Path.{_≡_};
+ghost use mathlib.Core.Bool.{cond};
+ghost use lib.Dec.{eqb};
 ghost use Prim.Native.Nat.{_+_, _≤_, _<_};
-ghost use lib.ListN.{length, set};
+ghost use lib.ListN.{length};
 ghost use lib.Seq.{sets};
-ghost use Rattle.hub.specs.FilterState.{numberAt, orderOf, coefficientsAt, memoryAt, stageAt, configAt, filterAt, readable, wordOf, flagWord, orderWord, configWords, coefficientWords, memoryWords, stageWords, written};
-ghost use Rattle.hub.specs.FilterDoor.{packed, settings, fiveAt, openedOf, openAnswer, openState, labelOf, processAnswer, processState, processOutput, resetAnswer, resetState, biasAnswer};
+ghost use Rattle.dc_highpass.specs.Filter.{processOf, outputAfter};
+ghost use Rattle.hub.specs.FilterState.{numberAt, orderOf, coefficientsAt, memoryAt, stageAt, configAt, filterAt, readable, orderWord, wordsOf, written};
+ghost use Rattle.hub.specs.FilterDoor.{packed, settings, fiveAt, openedOf, openAnswer, openState, labelOf, processAnswer, processState, processOutput, resetAnswer, resetState, clearedOf, biasAnswer};
 use dc_highpass::DcHighPassFilter;
 use dc_highpass::HighpassOrder;
 use dc_highpass::Opened;
 use dc_highpass::PreprocessingConfig;
+use dc_highpass::Processed;
+use dc_highpass::Refusal;
 use dc_highpass::VadContext;
 use dc_highpass::biquad::Biquad;
 use dc_highpass::biquad::BiquadCoefficients;
 use dc_highpass::biquad::BiquadState;
+use float::to_bits;
 
 fn order(fourth: bool) -> HighpassOrder
     ensures { λ r. ⌜ r ≡ orderOf fourth ⌝ }
@@ -108,25 +114,6 @@ fn well_formed(words: &[u32]) -> bool
     words[5] <= 1
 }
 
-// One word for every NaN, whose bits the compiled code doesn't fix.
-fn number_word(x: f32) -> u32
-    ensures { λ r. ⌜ r ≡ wordOf x ⌝ }
-{
-    if x != x {
-        return 0x7fc0_0000;
-    }
-    f32::to_bits(x)
-}
-
-fn flag_word(flag: bool) -> u32
-    ensures { λ r. ⌜ r ≡ flagWord flag ⌝ }
-{
-    if flag {
-        return 1;
-    }
-    0
-}
-
 fn order_word(order: HighpassOrder) -> u32
     ensures { λ r. ⌜ r ≡ orderWord order ⌝ }
 {
@@ -136,81 +123,77 @@ fn order_word(order: HighpassOrder) -> u32
     }
 }
 
-fn put_word(words: &mut [u32], at: usize, word: u32)
-    requires { ⌜ at < length (now words) ⌝ }
-    ensures { λ _. ⌜ now (words .exit) ≡ set (now (words .entry)) at word ⌝ }
+fn put_words(words: &mut [u32], at: usize, new: &[u32])
+    requires { ⌜ at + length (now new) ≤ length (now words) ⌝ }
+    ensures { λ _. ⌜ now (words .exit) ≡ sets (now (words .entry)) at (now (new .entry)) ⌝ }
 {
-    words[at] = word;
+    let mut i = 0;
+    while i < new.len() {
+        words[at + i] = new[i];
+        i += 1;
+    }
 }
 
-fn put_number(words: &mut [u32], at: usize, x: f32)
-    requires { ⌜ at < length (now words) ⌝ }
-    ensures { λ _. ⌜ now (words .exit) ≡ set (now (words .entry)) at (wordOf x) ⌝ }
+fn words_of(filter: DcHighPassFilter) -> [u32; 25]
+    ensures { λ r. ⌜ r ≡ wordsOf filter ⌝ }
 {
-    put_word(words, at, number_word(x));
-}
-
-fn put_coefficients(words: &mut [u32], at: usize, c: BiquadCoefficients)
-    requires { ⌜ at + 5 ≤ length (now words) ⌝ }
-    ensures { λ _. ⌜ now (words .exit) ≡ sets (now (words .entry)) at (coefficientWords c) ⌝ }
-{
-    put_number(words, at, c.b0);
-    put_number(words, at + 1, c.b1);
-    put_number(words, at + 2, c.b2);
-    put_number(words, at + 3, c.a1);
-    put_number(words, at + 4, c.a2);
-}
-
-fn put_memory(words: &mut [u32], at: usize, s: BiquadState)
-    requires { ⌜ at + 4 ≤ length (now words) ⌝ }
-    ensures { λ _. ⌜ now (words .exit) ≡ sets (now (words .entry)) at (memoryWords s) ⌝ }
-{
-    put_number(words, at, s.x1);
-    put_number(words, at + 1, s.x2);
-    put_number(words, at + 2, s.y1);
-    put_number(words, at + 3, s.y2);
-}
-
-fn put_stage(words: &mut [u32], at: usize, stage: Biquad)
-    requires { ⌜ at + 9 ≤ length (now words) ⌝ }
-    ensures { λ _. ⌜ now (words .exit) ≡ sets (now (words .entry)) at (stageWords stage) ⌝ }
-{
-    let coeffs = stage.coeffs;
-    let state = stage.state;
-    put_coefficients(words, at, coeffs);
-    put_memory(words, at + 5, state);
-}
-
-fn put_config(words: &mut [u32], config: PreprocessingConfig)
-    requires { ⌜ 25 ≤ length (now words) ⌝ }
-    ensures { λ _. ⌜ now (words .exit) ≡ sets (now (words .entry)) 0 (configWords config) ⌝ }
-{
+    let config = filter.config;
     let order = config.highpass_order;
-    put_number(words, 0, config.highpass_cutoff_hz);
-    put_word(words, 1, config.sample_rate_hz);
-    put_number(words, 2, config.dc_bias_alpha);
-    put_word(words, 3, flag_word(config.enable_dc_removal));
-    put_word(words, 4, flag_word(config.enable_highpass));
-    put_word(words, 5, order_word(order));
+    [
+        to_bits(config.highpass_cutoff_hz),
+        config.sample_rate_hz,
+        to_bits(config.dc_bias_alpha),
+        config.enable_dc_removal as u32,
+        config.enable_highpass as u32,
+        order_word(order),
+        to_bits(filter.first.coeffs.b0),
+        to_bits(filter.first.coeffs.b1),
+        to_bits(filter.first.coeffs.b2),
+        to_bits(filter.first.coeffs.a1),
+        to_bits(filter.first.coeffs.a2),
+        to_bits(filter.first.state.x1),
+        to_bits(filter.first.state.x2),
+        to_bits(filter.first.state.y1),
+        to_bits(filter.first.state.y2),
+        to_bits(filter.second.coeffs.b0),
+        to_bits(filter.second.coeffs.b1),
+        to_bits(filter.second.coeffs.b2),
+        to_bits(filter.second.coeffs.a1),
+        to_bits(filter.second.coeffs.a2),
+        to_bits(filter.second.state.x1),
+        to_bits(filter.second.state.x2),
+        to_bits(filter.second.state.y1),
+        to_bits(filter.second.state.y2),
+        to_bits(filter.dc_bias),
+    ]
 }
 
 fn put_filter(words: &mut [u32], filter: DcHighPassFilter)
     requires { ⌜ 25 ≤ length (now words) ⌝ }
     ensures { λ _. ⌜ now (words .exit) ≡ written filter (now (words .entry)) ⌝ }
 {
-    let config = filter.config;
-    let first = filter.first;
-    let second = filter.second;
-    put_config(words, config);
-    put_stage(words, 6, first);
-    put_stage(words, 15, second);
-    put_number(words, 24, filter.dc_bias);
+    put_words(words, 0, &words_of(filter));
 }
 
 fn answer(number: u32, carried: u32) -> u64
     ensures { λ r. ⌜ r ≡ packed number carried ⌝ }
 {
     (number as u64) + (carried as u64) * 0x1_0000_0000
+}
+
+// The state is written only where nothing was refused.
+fn keep(state: &mut [u32], done: Processed) -> u64
+    requires { ⌜ 25 ≤ length (now state) ⌝ }
+    requires { ⌜ done .refusal .place ≤ 1024 ⌝ }
+    ensures { λ r. ⌜ r ≡ packed (done .refusal .number) (done .refusal .place) ⌝ }
+    ensures { λ _. ⌜ now (state .exit) ≡ cond (eqb (done .refusal .number) 0) (written (done .filter) (now (state .entry))) (now (state .entry)) ⌝ }
+{
+    let word = answer(done.refusal.number, done.refusal.place as u32);
+    if done.refusal.number == 0 {
+        let filter = done.filter;
+        put_filter(state, filter);
+    }
+    word
 }
 
 fn five_at(xs: &[f32], at: usize) -> [f32; 5]
@@ -265,7 +248,7 @@ pub extern "C" fn fallowcart_filter_open(
     let done = opened(config, coefficients);
     let filter = done.filter;
     put_filter(state, filter);
-    answer(done.refusal, 0)
+    done.refusal as u64
 }
 
 // The Rust's `Option<VadContext>`.
@@ -279,6 +262,14 @@ fn label(has_context: bool, is_silence: bool) -> VadContext
         return VadContext::Silence;
     }
     VadContext::Speech
+}
+
+fn ran(words: &[u32], samples: &[f32], context: VadContext, output: &mut [f32]) -> Processed
+    requires { ⌜ 25 ≤ length (now words) ⌝ }
+    ensures { λ r. ⌜ r ≡ processOf (filterAt (now (words .entry))) (now (samples .entry)) context (length (now (output .entry))) ⌝ }
+    ensures { λ _. ⌜ now (output .exit) ≡ outputAfter (filterAt (now (words .entry))) (now (samples .entry)) context (now (output .entry)) ⌝ }
+{
+    dc_highpass::process(filter_at(words), samples, context, output)
 }
 
 // Carries the sample's place with 16 and 26. A refusal writes no state.
@@ -298,14 +289,24 @@ pub extern "C" fn fallowcart_filter_process(
         return 27;
     }
     let context = label(has_context, is_silence);
-    let done = dc_highpass::process(filter_at(state), samples, context, output);
-    let refusal = done.refusal;
-    if refusal.number == 0 {
-        let filter = done.filter;
-        put_filter(state, filter);
-        return 0;
+    let done = ran(state, samples, context, output);
+    keep(state, done)
+}
+
+// A reset's refusal carries nothing.
+fn cleared(words: &[u32]) -> Processed
+    requires { ⌜ 25 ≤ length (now words) ⌝ }
+    ensures { λ r. ⌜ r ≡ clearedOf (filterAt (now (words .entry))) ⌝ }
+{
+    let done = dc_highpass::reset(filter_at(words));
+    let filter = done.filter;
+    Processed {
+        refusal: Refusal {
+            number: done.refusal,
+            place: 0,
+        },
+        filter,
     }
-    answer(refusal.number, refusal.place as u32)
 }
 
 // A refusal writes nothing.
@@ -317,13 +318,8 @@ pub extern "C" fn fallowcart_filter_reset(state: &mut [u32]) -> u64
     if !well_formed(state) {
         return 27;
     }
-    let cleared = dc_highpass::reset(filter_at(state));
-    if cleared.refusal == 0 {
-        let filter = cleared.filter;
-        put_filter(state, filter);
-        return 0;
-    }
-    answer(cleared.refusal, 0)
+    let done = cleared(state);
+    keep(state, done)
 }
 
 // Carries the bias' bits.
@@ -335,5 +331,5 @@ pub extern "C" fn fallowcart_filter_bias(state: &[u32]) -> u64
         return 27;
     }
     let bias = dc_highpass::dc_bias(filter_at(state));
-    answer(bias.refusal, number_word(bias.value))
+    answer(bias.refusal, to_bits(bias.value))
 }

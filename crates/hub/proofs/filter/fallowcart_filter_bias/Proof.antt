@@ -17,8 +17,8 @@ filter-at-requires c κs = long-of (c .before .before .before .args .state .now)
 dc-bias-requires : tie.Need-dc-bias-requires
 dc-bias-requires c κs = search needs
 
-number-word-requires : tie.Need-number-word-requires
-number-word-requires c κs = search needs
+to-bits-requires : tie.Need-to-bits-requires
+to-bits-requires c κs = search needs
 
 answer-requires : tie.Need-answer-requires
 answer-requires c κs = search needs
@@ -28,7 +28,7 @@ returns-2 c =
     let s = c .before .before .before .before .before .before .before in
     let r = c .before .before in
     let e = rw (r .before .filter-at .ensures) at (r .dc-bias .ensures) in
-    let p = rw (c .before .number-word .ensures) at (c .answer .ensures) in
+    let p = rw (c .before .to-bits .ensures) at (c .answer .ensures) in
     bias-read (s .args .state .now) (sym (c .before .before .before .before .before .well-formed .ensures) ∙ not-false _ (c .before .before .before .before .if1 .left)) (r .dc-bias .result) e (c .answer .result) p
 
 pub fallowcart-filter-bias-spec : {M : Type 1} → statement M
@@ -39,6 +39,6 @@ fallowcart-filter-bias-spec =
     returns
     filter-at-requires
     dc-bias-requires
-    number-word-requires
+    to-bits-requires
     answer-requires
     returns-2)

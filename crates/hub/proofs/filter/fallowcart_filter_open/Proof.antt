@@ -19,8 +19,8 @@ opened-requires c κs = search needs
 put-filter-requires : tie.Need-put-filter-requires
 put-filter-requires c κs = search needs
 
-answer-requires : tie.Need-answer-requires
-answer-requires c κs = search needs
+cast-result : tie.Need-cast-result
+cast-result c = search needs
 
 same-length : tie.Need-same-length
 same-length c = search needs
@@ -30,7 +30,7 @@ returns-2 c =
     let s = c .before .before .before .before .before .before .before .before .before .before .before in
     let o = c .before .before .before .before .before .before in
     let e = rw (o .before .order .ensures) at (o .opened .ensures) in
-    open-written (settings (s .args .highpass-cutoff-hz) (s .args .sample-rate-hz) (s .args .dc-bias-alpha) (s .args .enable-dc-removal) (s .args .enable-highpass) (s .args .fourth-order)) (s .args .coefficients .now) (s .args .state .now) (let t = c .before .before .before .before .before .before .before .before .if1 .left in omega arith) (o .opened .result) e (c .answer .result) (c .answer .ensures) (c .before .before .before .put-filter .last .0) (c .before .before .before .put-filter .ensures)
+    open-written (settings (s .args .highpass-cutoff-hz) (s .args .sample-rate-hz) (s .args .dc-bias-alpha) (s .args .enable-dc-removal) (s .args .enable-highpass) (s .args .fourth-order)) (s .args .coefficients .now) (s .args .state .now) (let t = c .before .before .before .before .before .before .before .before .if1 .left in omega arith) (o .opened .result) e (c .before .before .before .put-filter .last .0) (c .before .before .before .put-filter .ensures)
 
 pub fallowcart-filter-open-spec : {M : Type 1} → statement M
 fallowcart-filter-open-spec =
@@ -40,6 +40,6 @@ fallowcart-filter-open-spec =
     order-requires
     opened-requires
     put-filter-requires
-    answer-requires
+    cast-result
     same-length
     returns-2)
