@@ -94,7 +94,7 @@ pub struct Judged {
 }
 
 // The track after a call's frames, and how many of them were loud.
-pub struct Passed {
+struct Passed {
     pub track: Track,
     pub loud: usize,
 }
@@ -108,7 +108,7 @@ pub struct Classified {
 }
 
 // The track after the frames whose rows were written, and the place after the rows.
-pub struct Written {
+struct Written {
     pub track: Track,
     pub end: usize,
 }
