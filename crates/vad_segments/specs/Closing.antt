@@ -21,7 +21,7 @@ use Rattle.vad_segments.specs.declared.Judged.{Judged}
 
 -- ---- the row
 
--- 'mean energy (the loud count first rounded to f32, ties to even)'
+-- 'mean energy (the loud count first rounded to f32, ties to even)'; a segment has a loud frame, so the Rust's `max(1)` never takes effect
 unfoldable pub meanEnergyOf : ActiveSegmentState → Float
 meanEnergyOf s = div binary32 (s .«energy_sum») (ofInt binary32 (pos (max 1 (s .«frame_count»))))
 
@@ -77,10 +77,11 @@ talkOf (r ∷ rs) = (r .«end_sample» - r .«start_sample») + talkOf rs
 
 -- ---- closing
 
--- padded, but not before the last segment end; and not past what the end is clipped to
+-- padded, but not before the last segment end
 unfoldable pub paddedStart : ℕ → ℕ → ActiveSegmentState → ℕ
 paddedStart padding prev s = max (s .«start_sample» - padding) prev
 
+-- padded, but not past the limit, or start + 1 if that is more, which it never is (`one-more-idle` in proofs/Ordered)
 unfoldable pub paddedEnd : ℕ → ℕ → ActiveSegmentState → ℕ
 paddedEnd padding limit s = min (s .«last_end_sample» + padding) (max limit (suc (s .«start_sample»)))
 
@@ -92,7 +93,7 @@ droppedOf limit prev s = record { end = max (min (s .«last_end_sample») limit)
 unfoldable pub tooShort : VadConfig → ActiveSegmentState → Bool
 tooShort c s = leb (s .«last_end_sample») (s .«start_sample») || ltb (s .«frame_count») (c .«min_speech_frames»)
 
--- a row, unless its two times are the same
+-- a row, unless its end's time is not past its start's, which never is so either
 unfoldable pub timedOf : VadConfig → ℕ → ℕ → ℕ → ℕ → ActiveSegmentState → Finalized
 timedOf c limit prev start end s =
     cond (leb (timeAt c end) (timeAt c start)) (droppedOf limit prev s) (record { end = end; report = Row (chunkOf c start end s) })

@@ -81,14 +81,8 @@ fn longer_pause(active: ActiveSegment) -> ActiveSegment
     match active {
         ActiveSegment::Closed => active,
         ActiveSegment::Open(segment) => {
-            let paused = ActiveSegmentState {
-                start_sample: segment.start_sample,
-                last_end_sample: segment.last_end_sample,
-                score_total: segment.score_total,
-                energy_sum: segment.energy_sum,
-                frame_count: segment.frame_count,
-                silence_run: segment.silence_run + 1,
-            };
+            let mut paused = segment;
+            paused.silence_run = segment.silence_run + 1;
             ActiveSegment::Open(paused)
         }
     }

@@ -11,8 +11,8 @@ enum-told c = search needs
 enum-known-active : tie.Need-enum-known-active
 enum-known-active c = search needs
 
-add-t5 : tie.Need-add-t5
-add-t5 c = let room = rw (c .before .before .active .given .1) at (c .before .before .before .before .pre) in omega arith
+add-paused : tie.Need-add-paused
+add-paused c = let room = rw (c .before .before .active .given .1) at (c .before .before .before .before .pre) in omega arith
 
 returns : tie.Need-returns
 unfolding pausedBy
@@ -23,4 +23,4 @@ unfolding pausedBy
 returns-2 c = simp (c .before .before .active .given .1, add-one)
 
 pub longer-pause-spec : {M : Type 1} → statement M
-longer-pause-spec = tie.close (tie.spec enum-told enum-known-active add-t5 returns returns-2)
+longer-pause-spec = tie.close (tie.spec enum-told enum-known-active add-paused returns returns-2)
