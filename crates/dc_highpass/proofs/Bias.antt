@@ -1,6 +1,6 @@
 -- The new bias is a finite number, so that no bias refuses a block: of an f32 alpha and a finite f32 bias, over a block of the domain. Assumes nothing.
 use mathlib.Core.Path.{_≡_, refl, sym, ap, subst, _∙_}
-use mathlib.Core.Bool.{Bool, true, false, cond}
+use mathlib.Core.Bool.{true, false}
 use mathlib.Core.Logic.{⊎-elim}
 use mathlib.Core.List.{List, [], _∷_}
 use Prim.Native.Nat.{ℕ, suc, _+_, _*_, _≤_, _<_}
@@ -18,9 +18,11 @@ use Rattle.float.specs.declared.Rounded.{Rounded}
 use Rattle.float.proofs.Sticky.{side}
 use Rattle.float.proofs.Words.{T-of}
 use Rattle.float.proofs.Bounds.{fits-parts, Mag, Yields, mag-finite, mag-of-range, held-small, held-scaled, held-own, over-value, mul-mag, add-mag, sub-mag, div-mag, fused-mag}
+use Rattle.ranges.specs.Ranges.{limit, inDomain, cleanOf}
+use Rattle.ranges.proofs.Laws.{leading-first}
 use Rattle.dc_highpass.specs.Biquad.{orNan}
 use Rattle.dc_highpass.specs.Settings.{zero as +0, one, alphaTaken}
-use Rattle.dc_highpass.specs.Filter.{sumFrom, meanOf, biasOf, inDomain, cleanOf}
+use Rattle.dc_highpass.specs.Filter.{sumFrom, meanOf, biasOf}
 use Rattle.dc_highpass.proofs.Finite.{both}
 
 -- ---- alpha is at most 1 − 2^-24
@@ -47,17 +49,12 @@ weight (fin false m e) t h l =
 sample-mag : (x : Float) → inDomain x ≡ true → Mag x 65536 1
 unfolding inDomain ofBits
 sample-mag x h =
-    let limit = ofBits binary32 0x4780_0000 in
     let t = both (le (neg limit) x) (le x limit) h in
     mag-of-range x limit 65536 1 (refl, refl) (subst T (sym (t .0)) tt) (subst T (sym (t .1)) tt)
 
 clean-first : (x : Float) (xs : List Float) → suc (length xs) ≤ cleanOf (x ∷ xs) → (inDomain x ≡ true) × (length xs ≤ cleanOf xs)
-unfolding cleanOf
-clean-first x xs h = go (inDomain x) refl h
-  where
-    go : (t : Bool) → inDomain x ≡ t → suc (length xs) ≤ cond t (suc (cleanOf xs)) 0 → (inDomain x ≡ true) × (length xs ≤ cleanOf xs)
-    go true e k = (e, omega arith)
-    go false e k = absurd (omega arith)
+unfolding cleanOf inDomain
+clean-first x xs h = leading-first (neg limit) limit x xs h
 
 sum-mag : (xs : List Float) (t : Float) (k : ℕ) → k + length xs ≤ 1024 → length xs ≤ cleanOf xs → Mag t (k * 65536) 1 → Mag (sumFrom t xs) ((k + length xs) * 65536) 1
 unfolding sumFrom

@@ -5,9 +5,10 @@ use mathlib.Core.List.{List, [], _∷_}
 use Prim.Native.Nat.{ℕ}
 use lib.Ieee.{Float, binary32, ofBits, ofInt, le, lt, add, sub, mul, div, neg, sum, round}
 use Rattle.float.specs.Fused.{fusedOf}
+use Rattle.ranges.specs.Ranges.{leadingOf, cleanOf}
 use Rattle.dc_highpass.specs.Biquad.{outputOf, nextOf}
 use Rattle.dc_highpass.specs.Settings.{refusalOf, stageTaken, stagesTaken, soundOf, remembersFinite}
-use Rattle.dc_highpass.specs.Filter.{freshOf, refused, biasedOf, biasOf, meanOf, sumFrom, centredOf, stagedBy, passOf, resultsOf, afterOf, inDomain, cleanOf, checkOf, ranOf, processOf, writtenOf, outputAfter}
+use Rattle.dc_highpass.specs.Filter.{freshOf, refused, biasedOf, biasOf, meanOf, sumFrom, centredOf, stagedBy, passOf, resultsOf, afterOf, checkOf, ranOf, processOf, writtenOf, outputAfter}
 use Rattle.dc_highpass.specs.declared.biquad.BiquadCoefficients.{BiquadCoefficients}
 use Rattle.dc_highpass.specs.declared.HighpassOrder.{HighpassOrder}
 use Rattle.dc_highpass.specs.declared.HighpassOrder.the-variants.{SecondOrder, FourthOrder}
@@ -116,7 +117,7 @@ abbrev pub after : DcHighPassFilter → ℕ → DcHighPassFilter
 after f sample = processOf f (ofBits binary32 sample ∷ []) Silence 1 .filter
 
 pub sum-from-minus-zero : after (after (after quiet 0x8000_0001) 0) 0x8000_0000 .«dc_bias» ≡ ofBits binary32 0x8000_0000
-unfolding processOf ranOf checkOf cleanOf inDomain soundOf remembersFinite refusalOf stagesTaken stageTaken resultsOf afterOf passOf centredOf biasedOf biasOf meanOf sumFrom freshOf fusedOf ofBits ofInt le lt mul sub add div neg sum round
+unfolding processOf ranOf checkOf cleanOf leadingOf soundOf remembersFinite refusalOf stagesTaken stageTaken resultsOf afterOf passOf centredOf biasedOf biasOf meanOf sumFrom freshOf fusedOf ofBits ofInt le lt mul sub add div neg sum round
 sum-from-minus-zero = refl
 
 -- speech leaves the bias alone
@@ -145,10 +146,10 @@ three-ones = ofBits binary32 0x3F80_0000 ∷ ofBits binary32 0x3F80_0000 ∷ ofB
 
 -- 26 carries the place, and the state is the one given
 pub overflow-refused : processOf loud two-zeros Unlabelled 3 ≡ record { refusal = refused 26 1; filter = loud }
-unfolding processOf ranOf checkOf cleanOf inDomain soundOf remembersFinite refusalOf stagesTaken stageTaken resultsOf afterOf passOf stagedBy outputOf nextOf centredOf biasedOf biasOf meanOf sumFrom fusedOf ofBits ofInt le lt mul sub add div neg sum round
+unfolding processOf ranOf checkOf cleanOf leadingOf soundOf remembersFinite refusalOf stagesTaken stageTaken resultsOf afterOf passOf stagedBy outputOf nextOf centredOf biasedOf biasOf meanOf sumFrom fusedOf ofBits ofInt le lt mul sub add div neg sum round
 overflow-refused = refl
 
 -- the output holds the result before the place, a zero to the block's length, and its old contents beyond
 pub overflow-output : outputAfter loud two-zeros Unlabelled three-ones ≡ ofBits binary32 0x7F7F_FFFF ∷ ofBits binary32 0 ∷ ofBits binary32 0x3F80_0000 ∷ []
-unfolding outputAfter writtenOf checkOf cleanOf inDomain soundOf remembersFinite refusalOf stagesTaken stageTaken resultsOf passOf stagedBy outputOf nextOf centredOf biasedOf biasOf meanOf sumFrom fusedOf ofBits ofInt le lt mul sub add div neg sum round
+unfolding outputAfter writtenOf checkOf cleanOf leadingOf soundOf remembersFinite refusalOf stagesTaken stageTaken resultsOf passOf stagedBy outputOf nextOf centredOf biasedOf biasOf meanOf sumFrom fusedOf ofBits ofInt le lt mul sub add div neg sum round
 overflow-output = refl

@@ -9,9 +9,10 @@ use lib.Dec.{ltb, eqb}
 use lib.ListN.{length, getD}
 use lib.Ieee.{Float, binary32, ofBits, sub}
 use lib.Ieee.Scale.{finite}
+use Rattle.ranges.specs.Ranges.{cleanOf}
 use Rattle.dc_highpass.specs.Biquad.{nextOf}
 use Rattle.dc_highpass.specs.Settings.{refusalOf, remembersFinite, soundOf}
-use Rattle.dc_highpass.specs.Filter.{coefficientsOf, refused, cleanOf, freshOf, nothingOpen, openOf, listens, biasOf, biasedOf, centredOf, heard, stagedBy, passOf, resultsOf, afterOf, checkOf, ranOf, processOf, resetOf}
+use Rattle.dc_highpass.specs.Filter.{coefficientsOf, refused, freshOf, nothingOpen, openOf, listens, biasOf, biasedOf, centredOf, heard, stagedBy, passOf, resultsOf, afterOf, checkOf, ranOf, processOf, resetOf}
 use Rattle.dc_highpass.specs.Run.{Call, Block, Reset, next, numberOf, play}
 use Rattle.dc_highpass.specs.declared.biquad.Biquad.{Biquad}
 use Rattle.dc_highpass.specs.declared.biquad.BiquadCoefficients.{BiquadCoefficients}

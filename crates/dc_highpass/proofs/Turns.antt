@@ -10,7 +10,7 @@ use lib.Seq.{drop-cons, sets}
 use Rattle.lists.specs.Stores.{sets-cons}
 use lib.Ieee.{Float, nan, binary32, add}
 use lib.Ieee.Scale.{finite}
-use Rattle.dc_highpass.specs.Filter.{coefficientsOf, freshOf, nothingOpen, openOf, isEmpty, listens, biasOf, biasedOf, sumFrom, cleanOf, inDomain, passOf, resultsOf, afterOf}
+use Rattle.dc_highpass.specs.Filter.{coefficientsOf, freshOf, nothingOpen, openOf, isEmpty, listens, biasOf, biasedOf, sumFrom, passOf, resultsOf, afterOf}
 use Rattle.dc_highpass.specs.declared.DcHighPassFilter.{DcHighPassFilter}
 use Rattle.dc_highpass.specs.declared.PreprocessingConfig.{PreprocessingConfig}
 use Rattle.dc_highpass.specs.declared.VadContext.{VadContext}
@@ -20,10 +20,6 @@ use borrow.Author.Tests.{ne-eqb}
 pub sum-end : (t : Float) (i : ℕ) (xs : List Float) → length xs ≤ i → sumFrom t (drop i xs) ≡ t
 unfolding sumFrom
 sum-end t i xs h = rw (drop-of-length-le xs h)
-
-pub clean-end : (i : ℕ) (xs : List Float) → length xs ≤ i → cleanOf (drop i xs) ≡ 0
-unfolding cleanOf
-clean-end i xs h = rw (drop-of-length-le xs h)
 
 pub results-end : (f : DcHighPassFilter) (i : ℕ) (xs : List Float) → length xs ≤ i → resultsOf f (drop i xs) ≡ []
 unfolding resultsOf
@@ -40,14 +36,6 @@ module _ (i : ℕ) (xs : List Float) (h : i < length xs) where
   pub sum-step : (t : Float) → sumFrom (add binary32 t (getD xs i nan)) (drop (i + 1) xs) ≡ sumFrom t (drop i xs)
   unfolding sumFrom
   sum-step t = rw (next, drop-cons xs i nan)
-
-  pub clean-step : inDomain (getD xs i nan) ≡ true → cleanOf (drop i xs) ≡ suc (cleanOf (drop (i + 1) xs))
-  unfolding cleanOf
-  clean-step d = rw (next, drop-cons xs i nan, d)
-
-  pub clean-stop : inDomain (getD xs i nan) ≡ false → cleanOf (drop i xs) ≡ 0
-  unfolding cleanOf
-  clean-stop d = rw (drop-cons xs i nan, d)
 
   module _ (f : DcHighPassFilter) where
     pub results-step : finite (passOf f (getD xs i nan) .output) ≡ true

@@ -1,15 +1,16 @@
 -- The filter of document 01: opening, a block, reset, the bias.
 use mathlib.Core.Bool.{Bool, true, false, not, _&&_, cond}
 use mathlib.Core.List.{List, [], _∷_, _++_}
-use Prim.Native.Nat.{ℕ, suc, _+_, _-_}
+use Prim.Native.Nat.{ℕ, _+_, _-_}
 use lib.Dec.{ltb, eqb}
 use lib.ListN.{length, drop, replicate, getD}
 use lib.IntN.{pos}
-use lib.Ieee.{Float, nan, binary32, ofBits, ofInt, add, sub, mul, div, neg}
+use lib.Ieee.{Float, nan, binary32, ofInt, add, sub, mul, div, neg}
 use lib.Ieee.Scale.{finite}
 use Rattle.float.specs.Fused.{fusedOf}
+use Rattle.ranges.specs.Ranges.{cleanOf}
 use Rattle.dc_highpass.specs.Biquad.{orNan, outputOf, nextOf}
-use Rattle.dc_highpass.specs.Settings.{zero, one, within, refusalOf, soundOf}
+use Rattle.dc_highpass.specs.Settings.{zero, one, refusalOf, soundOf}
 use Rattle.dc_highpass.specs.declared.biquad.Biquad.{Biquad}
 use Rattle.dc_highpass.specs.declared.biquad.BiquadCoefficients.{BiquadCoefficients}
 use Rattle.dc_highpass.specs.declared.biquad.BiquadState.{BiquadState}
@@ -132,15 +133,6 @@ afterOf f [] = f
 afterOf f (x ∷ xs) = let p = passOf f x in cond (finite (p .output)) (afterOf (p .filter) xs) f
 
 -- ---- process
-
--- 'each finite and of magnitude at most 65,536'
-unfoldable pub inDomain : Float → Bool
-inDomain x = within (neg (ofBits binary32 0x4780_0000)) x (ofBits binary32 0x4780_0000)
-
--- how many samples stand before the first outside the domain: all, where none is
-unfoldable pub cleanOf : List Float → ℕ
-cleanOf [] = 0
-cleanOf (x ∷ xs) = cond (inDomain x) (suc (cleanOf xs)) 0
 
 abbrev pub refused : ℕ → ℕ → Refusal
 refused n p = record { number = n; place = p }

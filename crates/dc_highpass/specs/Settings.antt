@@ -5,6 +5,7 @@ use lib.Dec.{leb, eqb}
 use lib.IntN.{pos}
 use lib.Ieee.{Float, binary32, ofBits, ofInt, le, lt, div, neg}
 use lib.Ieee.Scale.{finite}
+use Rattle.ranges.specs.Ranges.{within}
 use Rattle.dc_highpass.specs.declared.biquad.BiquadCoefficients.{BiquadCoefficients}
 use Rattle.dc_highpass.specs.declared.biquad.BiquadState.{BiquadState}
 use Rattle.dc_highpass.specs.declared.HighpassOrder.{HighpassOrder}
@@ -24,10 +25,6 @@ two = ofBits binary32 0x4000_0000
 
 abbrev pub twenty : Float
 twenty = ofBits binary32 0x41A0_0000
-
--- x in [low, high]
-abbrev pub within : Float → Float → Float → Bool
-within low x high = le low x && le x high
 
 -- 20: 'rate outside the domain', which is 8,000 to 48,000 Hz
 abbrev pub rateTaken : ℕ → Bool

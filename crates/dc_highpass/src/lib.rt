@@ -7,11 +7,10 @@ ghost use Prim.Native.Nat.{_+_, _-_, _≤_};
 ghost use lib.ListN.{length, replicate};
 ghost use lib.Seq.{sets};
 ghost use lib.Ieee.{binary32, ofBits, neg};
-ghost use Rattle.dc_highpass.specs.Filter.{coefficientsOf, freshOf, nothingOpen, openOf, listens, sumFrom, meanOf, biasedOf, centredOf, stepped, heard, passedOf, stagedBy, passOf, resultsOf, inDomain, cleanOf, refused, checkOf, ranOf, writtenOf, processOf, outputAfter, resetOf, biasRead};
+ghost use Rattle.dc_highpass.specs.Filter.{coefficientsOf, freshOf, nothingOpen, openOf, listens, sumFrom, meanOf, biasedOf, centredOf, stepped, heard, passedOf, stagedBy, passOf, resultsOf, refused, checkOf, ranOf, writtenOf, processOf, outputAfter, resetOf, biasRead};
 use biquad::Biquad;
 use biquad::BiquadCoefficients;
 use biquad::BiquadState;
-use settings::inside;
 use settings::sound;
 use settings::validate;
 
@@ -313,26 +312,6 @@ fn pass(filter: DcHighPassFilter, sample: f32) -> Passed
     }
 }
 
-fn in_domain(x: f32) -> bool
-    ensures { λ r. ⌜ r ≡ inDomain x ⌝ }
-{
-    inside(-65536.0, x, 65536.0)
-}
-
-// How many samples stand before the first outside the domain: all, where none is.
-fn clean(samples: &[f32]) -> usize
-    ensures { λ r. ⌜ r ≡ cleanOf (now (samples .entry)) ⌝ }
-{
-    let mut i = 0;
-    while i < samples.len() {
-        if !in_domain(samples[i]) {
-            break;
-        }
-        i += 1;
-    }
-    i
-}
-
 // 27, 15, 25 and 16, in this order: what is refused before anything is written.
 fn check(filter: DcHighPassFilter, samples: &[f32], room: usize) -> Refusal
     ensures { λ r. ⌜ r ≡ checkOf filter (now (samples .entry)) room ⌝ }
@@ -355,7 +334,7 @@ fn check(filter: DcHighPassFilter, samples: &[f32], room: usize) -> Refusal
             place: 0,
         };
     }
-    let place = clean(samples);
+    let place = ranges::clean(samples);
     if place < samples.len() {
         return Refusal { number: 16, place };
     }

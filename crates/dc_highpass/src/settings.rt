@@ -1,20 +1,12 @@
 // Refusals 20 to 24 and 27: which settings, coefficients and states are taken.
 ghost use mathlib.Core.Path.{_≡_};
-ghost use Rattle.dc_highpass.specs.Settings.{within, rateTaken, cutoffTaken, belowHalf, alphaTaken, stageTaken, stagesTaken, refusalOf, remembersFinite, soundOf};
+ghost use Rattle.dc_highpass.specs.Settings.{rateTaken, cutoffTaken, belowHalf, alphaTaken, stageTaken, stagesTaken, refusalOf, remembersFinite, soundOf};
 use super::DcHighPassFilter;
 use super::HighpassOrder;
 use super::PreprocessingConfig;
 use super::biquad::BiquadCoefficients;
 use super::biquad::BiquadState;
-
-pub fn inside(low: f32, x: f32, high: f32) -> bool
-    ensures { λ r. ⌜ r ≡ within low x high ⌝ }
-{
-    if low <= x {
-        return x <= high;
-    }
-    false
-}
+use ranges::inside;
 
 fn stage_taken(c: BiquadCoefficients) -> bool
     ensures { λ r. ⌜ r ≡ stageTaken c ⌝ }

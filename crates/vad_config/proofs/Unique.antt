@@ -1,10 +1,12 @@
 -- Two answers that meet a public function's contract are equal: each contract is an equation of the answer.
 use mathlib.Core.Path.{_≡_}
+use mathlib.Core.Bool.{Bool}
 use Prim.Native.Nat.{ℕ}
 use lib.Ieee.{Float}
 use Rattle.float.proofs.Unique.{only}
 use Rattle.vad_config.specs.declared.VadConfig.{VadConfig}
 use Rattle.vad_config.specs.declared.Lengths.{Lengths}
+use Rattle.vad_config.specs.Domain.{startIn}
 use Rattle.vad_config.specs.Lengths.{frameLengthOf, hopLengthOf, warmupFramesOf, paddingSamplesOf, timeOfSampleOf}
 use Rattle.vad_config.specs.Settings.{lengthsOf, refusalOf}
 
@@ -28,3 +30,6 @@ padding-samples-unique ns rate r q = only
 
 pub time-of-sample-unique : (start rate n r q : ℕ) → r ≡ timeOfSampleOf start rate n → q ≡ timeOfSampleOf start rate n → r ≡ q
 time-of-sample-unique start rate n r q = only
+
+pub start-allowed-unique : (start : ℕ) (r q : Bool) → r ≡ startIn start → q ≡ startIn start → r ≡ q
+start-allowed-unique start r q = only

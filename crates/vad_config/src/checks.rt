@@ -3,10 +3,11 @@ ghost use mathlib.Core.Path.{_≡_};
 ghost use mathlib.Core.Bool.{_||_, not};
 ghost use lib.Ieee.{isNan, lt};
 ghost use lib.Ieee.Scale.{finite};
-ghost use Rattle.vad_config.specs.Domain.{zero32, inUnit, rateIn, durationIn, startIn};
+ghost use Rattle.vad_config.specs.Domain.{zero32, inUnit, rateIn, durationIn};
 ghost use Rattle.vad_config.specs.Settings.{firstOf, framingRefusals, levelRefusals, limitRefusals};
 use super::VadConfig;
 use super::lengths_of;
+use super::start_allowed;
 
 pub fn rate_allowed(sample_rate: u32) -> bool
     ensures { λ r. ⌜ r ≡ rateIn «sample_rate» ⌝ }
@@ -18,12 +19,6 @@ pub fn duration_allowed(frame_duration: u64) -> bool
     ensures { λ r. ⌜ r ≡ durationIn «frame_duration» ⌝ }
 {
     1 <= frame_duration && frame_duration <= 1_000_000_000
-}
-
-pub fn start_allowed(stream_start_time: u64) -> bool
-    ensures { λ r. ⌜ r ≡ startIn «stream_start_time» ⌝ }
-{
-    stream_start_time < 0x8000_0000_0000_0000
 }
 
 // In [0,1): no NaN, and -0 is in it.

@@ -3,6 +3,7 @@ mod checks;
 
 ghost use mathlib.Core.Path.{_≡_};
 ghost use Prim.Native.Nat.{max};
+ghost use Rattle.vad_config.specs.Domain.{startIn};
 ghost use Rattle.vad_config.specs.Lengths.{frameLengthOf, hopLengthOf, warmupFramesOf, paddingSamplesOf, timeOfSampleOf};
 ghost use Rattle.vad_config.specs.Settings.{lengthsOf, refusalOf};
 
@@ -105,6 +106,13 @@ pub fn padding_samples(speech_padding: u64, sample_rate: u32) -> usize
     float::whole::round_f64(total * sample_rate as f64) as usize
 }
 
+// 13's part that a reset asks again.
+pub fn start_allowed(stream_start_time: u64) -> bool
+    ensures { λ r. ⌜ r ≡ startIn «stream_start_time» ⌝ }
+{
+    stream_start_time < 0x8000_0000_0000_0000
+}
+
 // Whole seconds and the rest apart, since 10^9 times the samples can pass 64 bits. There is no time outside the domain.
 pub fn time_of_sample(stream_start_time: u64, sample_rate: u32, sample: u64) -> u64
     ensures { λ r. ⌜ r ≡ timeOfSampleOf «stream_start_time» «sample_rate» sample ⌝ }
@@ -112,7 +120,7 @@ pub fn time_of_sample(stream_start_time: u64, sample_rate: u32, sample: u64) -> 
     if !checks::rate_allowed(sample_rate) {
         return 0;
     }
-    if !checks::start_allowed(stream_start_time) {
+    if !start_allowed(stream_start_time) {
         return 0;
     }
     if 0x100_0000_0000 < sample {

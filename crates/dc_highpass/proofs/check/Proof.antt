@@ -3,7 +3,8 @@ use Prim.Native.Nat.{_<_, _≤_}
 use lib.ListN.{length}
 use mathlib.Core.Path.{sym, _∙_}
 use borrow.Author.Tests.{not-true, not-false, lt-ltb, le-ltb}
-use Rattle.dc_highpass.specs.Filter.{checkOf, cleanOf}
+use Rattle.ranges.specs.Ranges.{cleanOf}
+use Rattle.dc_highpass.specs.Filter.{checkOf}
 use borrow.Author.Needs.{needs}
 use Rattle.dc_highpass.proofs.check.Statement.{statement}
 use Rattle.dc_highpass.proofs.check.Tie as tie

@@ -1,7 +1,7 @@
 use mathlib.Core.Path.{refl}
 use Rattle.vad_config.specs.Domain.{startIn}
-use Rattle.vad_config.proofs.checks.start_allowed.Statement.{statement}
-use Rattle.vad_config.proofs.checks.start_allowed.Tie as tie
+use Rattle.vad_config.proofs.start_allowed.Statement.{statement}
+use Rattle.vad_config.proofs.start_allowed.Tie as tie
 
 returns : tie.Need-returns
 unfolding startIn

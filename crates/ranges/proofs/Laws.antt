@@ -1,0 +1,60 @@
+-- What the count of leading numbers, and the test of all, say of each number. Assumes nothing.
+use mathlib.Core.Path.{_≡_, refl, sym, _∙_}
+use mathlib.Core.Bool.{Bool, true, false, _&&_, cond, true≢false}
+use mathlib.Core.List.{List, [], _∷_}
+use Prim.Native.Nat.{suc, _≤_}
+use native.Mathlib.Omega.{arith}
+use lib.Dec.{eqb, eqb·suc-suc, eqb·zero-suc}
+use lib.ListN.{length}
+use lib.Ieee.{Float, neg}
+use Rattle.lists.specs.Every.{Every}
+use Rattle.ranges.specs.Ranges.{within, leadingOf, allWithin, limit, inDomain, cleanOf}
+
+both : (a b : Bool) → a && b ≡ true → (a ≡ true) × (b ≡ true)
+both true b h = (refl, h)
+both false b h = absurd (true≢false (sym h))
+
+module _ (low high : Float) where
+  pub leading-le : (xs : List Float) → leadingOf low xs high ≤ length xs
+  unfolding leadingOf
+  leading-le [] = omega arith
+  leading-le (x ∷ xs) = go (within low x high) (leading-le xs)
+    where
+      go : (t : Bool) → leadingOf low xs high ≤ length xs → cond t (suc (leadingOf low xs high)) 0 ≤ length (x ∷ xs)
+      go true ih = omega arith
+      go false ih = omega arith
+
+  pub leading-first : (x : Float) (xs : List Float) → suc (length xs) ≤ leadingOf low (x ∷ xs) high → (within low x high ≡ true) × (length xs ≤ leadingOf low xs high)
+  unfolding leadingOf
+  leading-first x xs h = go (within low x high) refl h
+    where
+      go : (t : Bool) → within low x high ≡ t → suc (length xs) ≤ cond t (suc (leadingOf low xs high)) 0 → (within low x high ≡ true) × (length xs ≤ leadingOf low xs high)
+      go true e k = (e, omega arith)
+      go false e k = absurd (omega arith)
+
+  pub leading-all : (xs : List Float) → length xs ≤ leadingOf low xs high → Every (λ x. within low x high ≡ true) xs
+  leading-all [] h = tt
+  leading-all (x ∷ xs) h = let f = leading-first x xs h in (f .0, leading-all xs (f .1))
+
+  pub all-within : (xs : List Float) → allWithin low xs high ≡ true → Every (λ x. within low x high ≡ true) xs
+  unfolding allWithin
+  all-within [] h = tt
+  all-within (x ∷ xs) h = let p = both (within low x high) (allWithin low xs high) h in (p .0, all-within xs (p .1))
+
+  pub within-all : (xs : List Float) → Every (λ x. within low x high ≡ true) xs → allWithin low xs high ≡ true
+  unfolding allWithin
+  within-all [] h = refl
+  within-all (x ∷ xs) h = rw (h .0, within-all xs (h .1))
+
+  pub all-counted : (xs : List Float) → eqb (leadingOf low xs high) (length xs) ≡ allWithin low xs high
+  unfolding leadingOf allWithin
+  all-counted [] = refl
+  all-counted (x ∷ xs) = go (within low x high) (all-counted xs)
+    where
+      go : (t : Bool) → eqb (leadingOf low xs high) (length xs) ≡ allWithin low xs high → eqb (cond t (suc (leadingOf low xs high)) 0) (suc (length xs)) ≡ t && allWithin low xs high
+      go true ih = eqb·suc-suc (leadingOf low xs high) (length xs) ∙ ih
+      go false ih = eqb·zero-suc (length xs)
+
+pub clean-all : (xs : List Float) → length xs ≤ cleanOf xs → Every (λ x. inDomain x ≡ true) xs
+unfolding cleanOf inDomain
+clean-all xs h = leading-all (neg limit) limit xs h

@@ -1,0 +1,39 @@
+// Ranges of floats: one number, and a slice up to the first number outside.
+ghost use mathlib.Core.Path.{_≡_};
+ghost use Rattle.ranges.specs.Ranges.{within, leadingOf, allWithin, cleanOf};
+
+pub fn inside(low: f32, x: f32, high: f32) -> bool
+    ensures { λ r. ⌜ r ≡ within low x high ⌝ }
+{
+    if low <= x {
+        return x <= high;
+    }
+    false
+}
+
+// How many stand before the first outside: all, where none is.
+pub fn leading(low: f32, xs: &[f32], high: f32) -> usize
+    ensures { λ r. ⌜ r ≡ leadingOf low (now (xs .entry)) high ⌝ }
+{
+    let mut i = 0;
+    while i < xs.len() {
+        if !inside(low, xs[i], high) {
+            break;
+        }
+        i += 1;
+    }
+    i
+}
+
+pub fn all_inside(low: f32, xs: &[f32], high: f32) -> bool
+    ensures { λ r. ⌜ r ≡ allWithin low (now (xs .entry)) high ⌝ }
+{
+    leading(low, xs, high) == xs.len()
+}
+
+// How many samples stand before the first outside the domain.
+pub fn clean(samples: &[f32]) -> usize
+    ensures { λ r. ⌜ r ≡ cleanOf (now (samples .entry)) ⌝ }
+{
+    leading(-65536.0, samples, 65536.0)
+}
