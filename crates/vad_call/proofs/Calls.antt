@@ -1,0 +1,353 @@
+-- What a call measures, holds, judges and reports, way by way. Assumes nothing.
+use mathlib.Core.Path.{_≡_, refl, sym, ap, _∙_}
+use mathlib.Core.Bool.{Bool, true, false, not, _&&_, cond, true≢false}
+use mathlib.Core.List.{List, [], _∷_, _++_}
+use Prim.Native.Nat.{ℕ, _+_, _-_, _^_, _≤_, _<_}
+use native.Mathlib.Omega.{arith}
+use borrow.Author.Tests.{lt-ltb, le-ltb, ltb-true}
+use lib.Dec.{ltb, lit≤}
+use lib.ListN.{length, take, drop, length-append, length-take, length-drop}
+use lib.Seq.{sets, length-take-le}
+use lib.Ieee.{Float}
+use Rattle.vad_frames.specs.Emphasis.{coefficientOf, emphasized, lastOf}
+use Rattle.vad_frames.specs.Grid.{framesOf, energiesOf, framedOf, carryOf}
+use Rattle.vad_frames.specs.declared.Framed.{Framed}
+use Rattle.vad_frames.proofs.Laws.{emphasized-length, frames-below, energies-length, consumed-le, carry-flushed, carry-short}
+use Rattle.vad_segments.specs.Closing.{roomOf, flat}
+use Rattle.vad_segments.specs.Judging.{flooredTo, framesAt, callRows, classifiedOf}
+use Rattle.vad_segments.specs.Loudness.{seedOf}
+use Rattle.vad_segments.specs.Positions.{holdsOf}
+use Rattle.vad_segments.specs.Rooms.{Within}
+use Rattle.vad_segments.specs.declared.SpeechChunk.{SpeechChunk}
+use Rattle.vad_segments.specs.declared.Track.{Track}
+use Rattle.vad_segments.specs.declared.Classified.{Classified}
+use Rattle.vad_segments.proofs.Laws.{flat-length, room-enough}
+use Rattle.vad_segments.proofs.Ordered.{call-rows-counted}
+use Rattle.vad_state.specs.State.{windowOf, carriedOf, heldOf}
+use Rattle.vad_call.specs.Calls.{valuesOf, waitingOf, measuredFrom, measuredOf, consumedFrom, carryAfter, progressOf, holdingWith, holdingOf, keptOf, dueOf, seededOf, gridStart, framesDue, verdictOf, rowsDue, refusedBy, acceptedOf, tooMany, concludedOf, reportedIn, ranOf, rowsOfCall, writtenOf}
+use Rattle.vad_state.specs.declared.VadDetector.{VadDetector}
+use Rattle.vad_call.specs.declared.Progress.{Progress}
+use Rattle.vad_call.specs.declared.Detected.{Detected}
+use Rattle.vad_state.proofs.Fills.{from-start, take-again, put-back, put-rest, put-on}
+use Rattle.vad_state.proofs.Parts.{Sound, frame-high, hop-low, hop-high, warmup-high}
+
+-- ---- gather
+module _ (d : VadDetector) (xs : List Float) (long : length (d .carry) ≡ 2048) (short : d .«carry_len» ≤ 2048) where
+  carried-length : length (carriedOf d) ≡ d .«carry_len»
+  unfolding carriedOf
+  carried-length = length-take-le (d .«carry_len») (d .carry) (omega arith)
+
+  pub values-length : length (valuesOf d xs) ≡ d .«carry_len» + length xs
+  unfolding valuesOf
+  values-length =
+      let a = coefficientOf (d .rules .config .«has_pre_emphasis») (d .rules .config .«pre_emphasis») in
+      omega (arith, length-append (carriedOf d) (emphasized a (d .«pre_emphasis_prev») xs), carried-length, emphasized-length a (d .«pre_emphasis_prev») xs)
+
+  -- the carry put first, then the block's values
+  pub gathered : (to whole last : List Float) (coeff : Float) → d .«carry_len» + length xs ≤ length to
+      → whole ≡ sets to 0 (take (d .«carry_len» - 0) (d .carry)) → coeff ≡ coefficientOf (d .rules .config .«has_pre_emphasis») (d .rules .config .«pre_emphasis»)
+      → last ≡ sets (take (length whole - d .«carry_len») (drop (d .«carry_len») whole)) 0 (emphasized coeff (d .«pre_emphasis_prev») xs)
+      → take (d .«carry_len») whole ++ (last ++ drop (length whole - d .«carry_len») (drop (d .«carry_len») whole)) ≡ sets to 0 (valuesOf d xs)
+  unfolding valuesOf carriedOf
+  gathered to whole last coeff room w e l =
+      let n = d .«carry_len» in
+      let a = coefficientOf (d .rules .config .«has_pre_emphasis») (d .rules .config .«pre_emphasis») in
+      let ys = emphasized a (d .«pre_emphasis_prev») xs in
+      let many : length ys ≡ length xs = emphasized-length a (d .«pre_emphasis_prev») xs in
+      put-on to (take n (d .carry)) ys whole last n carried-length (omega arith) (w ∙ ap (sets to 0) (from-start n (d .carry)))
+      (l ∙ ap (λ (c : Float). sets (take (length whole - n) (drop n whole)) 0 (emphasized c (d .«pre_emphasis_prev») xs)) e)
+
+-- ---- waiting
+module _ (d : VadDetector) where
+  pub waiting-on : Sound d → length (d .warmup) ≡ 300 → d .warming ≡ true → d .held ≡ length (waitingOf d)
+  unfolding waitingOf heldOf
+  waiting-on s long on =
+      let few = s .held on .few in
+      let high = warmup-high d s in
+      rw on (sym (length-take-le (d .held) (d .warmup) (omega arith)))
+
+  pub waiting-off : d .warming ≡ false → 0 ≡ length (waitingOf d)
+  unfolding waitingOf
+  waiting-off off = rw off
+
+  -- fewer than the warm-up's count
+  pub waiting-few : Sound d → length (waitingOf d) ≤ 300
+  unfolding waitingOf heldOf
+  waiting-few s = go (d .warming) refl
+    where
+      go : (b : Bool) → d .warming ≡ b → length (cond b (take (d .held) (d .warmup)) []) ≤ 300
+      go true on = let few = s .held on .few in let high = warmup-high d s in let n = length-take (d .held) (d .warmup) in omega arith
+      go false off = omega arith
+
+  -- the part of the array that they are in
+  pub waiting-part : (n : ℕ) → n ≡ length (waitingOf d) → take (n - 0) (d .warmup) ≡ waitingOf d
+  unfolding waitingOf heldOf
+  waiting-part n h = from-start n (d .warmup) ∙ ap (λ (k : ℕ). take k (d .warmup)) h ∙ go (d .warming)
+    where
+      go : (b : Bool) → take (length (cond b (take (d .held) (d .warmup)) [])) (d .warmup) ≡ cond b (take (d .held) (d .warmup)) []
+      go true = take-again (d .held) (d .warmup)
+      go false = refl
+
+-- ---- measure
+module _ (finish : Bool) (d : VadDetector) (s : Sound d) (long : length (d .window) ≡ 2048) where
+  window-length : length (windowOf d) ≡ d .rules .lengths .«frame_length»
+  unfolding windowOf
+  window-length = let high = frame-high d s in length-take-le (d .rules .lengths .«frame_length») (d .window) (omega arith)
+
+  -- a hop is 8 at least
+  frames-few : (values : List Float) → length values ≤ 3072 → length (framesOf finish (length (windowOf d)) (d .rules .lengths .«hop_length») values) ≤ 384
+  frames-few values m =
+      let low = hop-low d s in
+      let most = frames-below finish (length (windowOf d)) (d .rules .lengths .«hop_length») (omega arith) 8 values (lit≤ tt) low in
+      omega arith
+
+  measured-length : (values : List Float) → length (measuredFrom finish d values) ≡ length (waitingOf d) + length (framesOf finish (length (windowOf d)) (d .rules .lengths .«hop_length») values)
+  unfolding measuredFrom
+  measured-length values =
+      let hop = d .rules .lengths .«hop_length» in
+      length-append (waitingOf d) (energiesOf finish (windowOf d) hop values) ∙ ap (λ (k : ℕ). length (waitingOf d) + k) (energies-length finish (windowOf d) hop values)
+
+  pub measured-few : (values : List Float) → length values ≤ 3072 → length (measuredFrom finish d values) ≤ 1024
+  measured-few values m = omega (arith, measured-length values, frames-few values m, waiting-few d s)
+
+  module _ (values : List Float) (m : length values ≤ 3072) (held : ℕ) (h : held ≡ length (waitingOf d)) where
+    -- what `frame_signal` asks
+    pub frames-asked : (whole : List Float) → length whole ≡ 1024 → let w = take (d .rules .lengths .«frame_length» - 0) (d .window) in let hop = d .rules .lengths .«hop_length» in
+        ((1 ≤ hop) × (hop ≤ length w)) × (length (framesOf finish (length w) hop values) ≤ length (take (length whole - held) (drop held whole)))
+    unfolding windowOf
+    frames-asked whole e =
+        let few = frames-few values m in
+        let wait = waiting-few d s in
+        let left = length-drop held whole in
+        let room = length-take (length whole - held) (drop held whole) in
+        let low = hop-low d s in
+        let high = hop-high d s in
+        let wide = window-length in
+        rw (from-start (d .rules .lengths .«frame_length») (d .window)) ((omega arith, omega arith), omega arith)
+
+    module _ (r : Framed) (e : r ≡ framedOf finish (take (d .rules .lengths .«frame_length» - 0) (d .window)) (d .rules .lengths .«hop_length») values) where
+      framed-is : r ≡ framedOf finish (windowOf d) (d .rules .lengths .«hop_length») values
+      unfolding windowOf
+      framed-is = e ∙ ap (λ (w : List Float). framedOf finish w (d .rules .lengths .«hop_length») values) (from-start (d .rules .lengths .«frame_length») (d .window))
+
+      pub measured-count : held + r .frames ≡ length (measuredFrom finish d values)
+      unfolding framedOf
+      measured-count = let n = ap (λ (f : Framed). f .frames) framed-is in omega (arith, measured-length values)
+
+      pub measured-used : r .consumed ≡ consumedFrom finish d values
+      unfolding consumedFrom
+      measured-used = ap (λ (f : Framed). f .consumed) framed-is
+
+    -- those held put first, then the new ones
+    pub measured-put : (to whole last : List Float) → length to ≡ 1024 → whole ≡ sets to 0 (take (held - 0) (d .warmup))
+        → last ≡ sets (take (length whole - held) (drop held whole)) 0 (energiesOf finish (take (d .rules .lengths .«frame_length» - 0) (d .window)) (d .rules .lengths .«hop_length») values)
+        → take held whole ++ (last ++ drop (length whole - held) (drop held whole)) ≡ sets to 0 (measuredFrom finish d values)
+    unfolding measuredFrom windowOf
+    measured-put to whole last room w l =
+        let hop = d .rules .lengths .«hop_length» in
+        let es = energiesOf finish (take (d .rules .lengths .«frame_length») (d .window)) hop values in
+        let few = frames-few values m in
+        let wait = waiting-few d s in
+        let many = energies-length finish (take (d .rules .lengths .«frame_length») (d .window)) hop values in
+        put-on to (waitingOf d) es whole last held (sym h) (omega arith) (w ∙ ap (sets to 0) (waiting-part d held h))
+        (l ∙ ap (λ (x : List Float). sets (take (length whole - held) (drop held whole)) 0 (energiesOf finish x hop values)) (from-start (d .rules .lengths .«frame_length») (d .window)))
+
+  -- what stays fits its array
+  pub carry-few : (xs : List Float) → length (carryAfter finish d xs) ≤ 2048
+  unfolding carryAfter consumedFrom carryOf
+  carry-few xs = go finish
+    where
+      hop : ℕ
+      hop = d .rules .lengths .«hop_length»
+
+      go : (b : Bool) → length (carryOf b (windowOf d) hop (valuesOf d xs)) ≤ 2048
+      go true = let none = ap length (carry-flushed (windowOf d) (d .rules .lengths .«hop_length») (valuesOf d xs)) in omega arith
+      go false =
+          let low = hop-low d s in
+          let high = hop-high d s in
+          let most = frame-high d s in
+          let wide = window-length in
+          let less = carry-short (windowOf d) (d .rules .lengths .«hop_length») (valuesOf d xs) (omega arith) (omega arith) in
+          omega arith
+
+-- ---- verdict and report
+-- a new floor changes no position and no count
+pub seeded-within : (d : VadDetector) (due : List Float) → Within (2 ^ 41) (2 ^ 60) (d .track) → Within (2 ^ 41) (2 ^ 60) (seededOf d due)
+unfolding seededOf flooredTo
+seeded-within d due w = go (d .warming)
+  where
+    go : (b : Bool) → Within (2 ^ 41) (2 ^ 60) (cond {A = Track} b (flooredTo (seedOf (d .rules .config .«energy_floor») (d .track .«noise_floor») due) (d .track)) (d .track))
+    go true = w
+    go false = w
+
+seeded-rows : (d : VadDetector) (due : List Float) → seededOf d due .«rows_reported» ≡ d .track .«rows_reported»
+unfolding seededOf flooredTo
+seeded-rows d due = go (d .warming)
+  where
+    go : (b : Bool) → cond {A = Track} b (flooredTo (seedOf (d .rules .config .«energy_floor») (d .track .«noise_floor») due) (d .track)) (d .track) .«rows_reported» ≡ d .track .«rows_reported»
+    go true = refl
+    go false = refl
+
+pub grid-low : (d : VadDetector) → Sound d → gridStart d ≤ 2 ^ 41
+unfolding gridStart
+grid-low d s = go (d .warming)
+  where
+    go : (b : Bool) → cond b 0 (d .«carry_start») ≤ 2 ^ 41
+    go true = omega arith
+    go false = let j = s .joined in let r = s .received in omega arith
+
+module _ (finish : Bool) (d : VadDetector) (received : ℕ) (due : List Float) (t : Track) (e : t ≡ seededOf d due) (first : ℕ) (f : first ≡ gridStart d) where
+  pub verdict-is : (c : Classified) → c ≡ classifiedOf finish (d .rules) received t (framesAt (d .rules .lengths) received first due) → c ≡ verdictOf finish d received due
+  unfolding verdictOf framesDue
+  verdict-is c h = h ∙ rw (e, f)
+
+  rows-are : callRows finish (d .rules) received t (framesAt (d .rules .lengths) received first due) ≡ rowsDue finish d received due
+  unfolding rowsDue framesDue
+  rows-are = rw (e, f)
+
+  module _ (needed : ℕ) (n : needed ≡ length (rowsDue finish d received due)) where
+    -- what `write_rows` asks of the lent slice
+    pub rows-fit : (room : ℕ) → needed ≤ roomOf room → length (flat (callRows finish (d .rules) received t (framesAt (d .rules .lengths) received first due))) ≤ room
+    rows-fit room h = rw rows-are (omega (arith, flat-length (rowsDue finish d received due), room-enough needed room h))
+
+  pub rows-put : (out last : List ℕ) → last ≡ sets out 0 (flat (callRows finish (d .rules) received t (framesAt (d .rules .lengths) received first due))) → last ≡ sets out 0 (flat (rowsDue finish d received due))
+  rows-put out last h = h ∙ ap (λ (rs : List SpeechChunk). sets out 0 (flat rs)) rows-are
+
+-- no row, nothing written
+pub rows-none : (rows : List SpeechChunk) (out : List ℕ) → 0 ≡ length rows → out ≡ sets out 0 (flat rows)
+unfolding flat
+rows-none [] out h = refl
+rows-none (r ∷ rs) out h = absurd (omega arith)
+
+-- as many rows as the track counts more
+pub rows-more : (finish : Bool) (d : VadDetector) (received : ℕ) (due : List Float) (c : Classified) → c ≡ verdictOf finish d received due
+    → c .track .«rows_reported» ≡ d .track .«rows_reported» + length (rowsDue finish d received due)
+unfolding verdictOf classifiedOf rowsDue
+rows-more finish d received due c e =
+    ap (λ (x : Classified). x .track .«rows_reported») e
+    ∙ call-rows-counted (d .rules) received (seededOf d due) (framesDue d received due) finish
+    ∙ ap (λ (n : ℕ). n + length (callRows finish (d .rules) received (seededOf d due) (framesDue d received due))) (seeded-rows d due)
+
+pub needed-due : (finish : Bool) (d : VadDetector) (received : ℕ) (due : List Float) (c : Classified) → c ≡ verdictOf finish d received due → (n : ℕ) → n ≡ c .track .«rows_reported» - d .track .«rows_reported»
+    → n ≡ length (rowsDue finish d received due)
+needed-due finish d received due c e n g = let more = rows-more finish d received due c e in omega arith
+
+-- ---- conclude
+module _ (finish : Bool) (d : VadDetector) (es : List Float) (holds : Bool) (h : holds ≡ holdingWith finish d (length es)) where
+  -- the energies are held or judged, all of them
+  due-is : (due : List Float) → due ≡ cond holds [] es → due ≡ dueOf finish d es
+  unfolding dueOf holdingOf
+  due-is due u = u ∙ ap (λ (b : Bool). cond b [] es) h
+
+  kept-is : (kept : List Float) → kept ≡ cond holds es [] → kept ≡ keptOf finish d es
+  unfolding keptOf holdingOf
+  kept-is kept k = k ∙ ap (λ (b : Bool). cond b es []) h
+
+  pub due-few : (due : List Float) → due ≡ cond holds [] es → length due ≤ length es
+  due-few due u = rw u (go holds)
+    where
+      go : (b : Bool) → length (cond b [] es) ≤ length es
+      go true = omega arith
+      go false = omega arith
+
+  -- fewer are held than the warm-up's count
+  pub kept-few : Sound d → (kept : List Float) → kept ≡ cond holds es [] → length kept ≤ 300
+  unfolding holdingWith holdsOf
+  kept-few s kept k = rw k (go (d .warming) finish holds h)
+    where
+      go : (w f b : Bool) → b ≡ (w && (not f && ltb (length es) (d .rules .lengths .«warmup_frames»))) → length (cond b es []) ≤ 300
+      go true false true t = let few : length es < d .rules .lengths .«warmup_frames» = ltb-true _ _ (sym t) in let high = warmup-high d s in omega arith
+      go true true true t = absurd (true≢false t)
+      go false f true t = absurd (true≢false t)
+      go w f false t = omega arith
+
+  module _ (due : List Float) (u : due ≡ cond holds [] es) (p : Progress) (c : Classified) (e : c ≡ verdictOf finish d (p .«processed_samples») due)
+      (n : ℕ) (g : n ≡ c .track .«rows_reported» - d .track .«rows_reported») where
+    needed-is : n ≡ length (rowsDue finish d (p .«processed_samples») (dueOf finish d es))
+    needed-is = needed-due finish d (p .«processed_samples») due c e n g ∙ ap (λ (x : List Float). length (rowsDue finish d (p .«processed_samples») x)) (due-is due u)
+
+    -- 18
+    pub concluded-refused : (carry : List Float) (room : ℕ) → roomOf room < n → refusedBy 18 n d ≡ concludedOf finish d p carry es room
+    unfolding concludedOf tooMany
+    concluded-refused carry room l = rw (← needed-is, lt-ltb (roomOf room) n l)
+
+    pub concluded-accepted : (carry : List Float) (room : ℕ) → n ≤ roomOf room → (kept : List Float) → kept ≡ cond holds es [] → (r : Detected) → r ≡ acceptedOf d p holds carry kept c n
+        → r ≡ concludedOf finish d p carry es room
+    unfolding concludedOf tooMany holdingOf
+    concluded-accepted carry room l kept k r a = a ∙ rw (← needed-is, le-ltb (roomOf room) n l, kept-is kept k, e, due-is due u, h)
+
+    pub reported-refused : (out : List ℕ) → roomOf (length out) < n → out ≡ reportedIn (rowsDue finish d (p .«processed_samples») (dueOf finish d es)) out
+    unfolding reportedIn tooMany
+    reported-refused out l = rw (← needed-is, lt-ltb (roomOf (length out)) n l)
+
+    pub reported-accepted : (out : List ℕ) → n ≤ roomOf (length out) → (last : List ℕ) → last ≡ sets out 0 (flat (rowsDue finish d (p .«processed_samples») due))
+        → last ≡ reportedIn (rowsDue finish d (p .«processed_samples») (dueOf finish d es)) out
+    unfolding reportedIn tooMany
+    reported-accepted out l last a = a ∙ rw (← needed-is, le-ltb (roomOf (length out)) n l, due-is due u)
+
+-- ---- run
+-- the carry and the block fit the array of values
+pub total-few : (d : VadDetector) → Sound d → (n : ℕ) → n ≤ 1024 → d .«carry_len» + n ≤ 3072
+total-few d s n l = let short = s .short in let high = frame-high d s in omega arith
+
+module _ (finish : Bool) (d : VadDetector) (s : Sound d) (xs : List Float) (most : length xs ≤ 1024) (wide : length (d .window) ≡ 2048) (long : length (d .carry) ≡ 2048)
+    (blank values : List Float) (b : length blank ≡ 3072) (v : values ≡ sets blank 0 (valuesOf d xs)) where
+  values-many : length (valuesOf d xs) ≡ d .«carry_len» + length xs
+  values-many = let short = s .short in let high = frame-high d s in values-length d xs long (omega arith)
+
+  values-back : take (d .«carry_len» + length xs - 0) values ≡ valuesOf d xs
+  values-back =
+      let few = total-few d s (length xs) most in
+      from-start (d .«carry_len» + length xs) values ∙ ap (take (d .«carry_len» + length xs)) v ∙ put-back blank (valuesOf d xs) (d .«carry_len» + length xs) values-many (omega arith)
+
+  module _ (consumed : ℕ) (c : consumed ≡ consumedFrom finish d (take (d .«carry_len» + length xs - 0) values)) where
+    consumed-is : consumed ≡ consumedFrom finish d (valuesOf d xs)
+    consumed-is = c ∙ ap (consumedFrom finish d) values-back
+
+    pub consumed-few : consumed ≤ d .«carry_len» + length xs
+    unfolding consumedFrom
+    consumed-few = let le = consumed-le finish (windowOf d) (d .rules .lengths .«hop_length») (valuesOf d xs) in omega (arith, consumed-is, values-many)
+
+    carry-back : take (d .«carry_len» + length xs - consumed) (drop consumed values) ≡ carryAfter finish d xs
+    unfolding carryAfter
+    carry-back =
+        let few = total-few d s (length xs) most in
+        ap (λ (ys : List Float). take (d .«carry_len» + length xs - consumed) (drop consumed ys)) v
+        ∙ put-rest blank (valuesOf d xs) consumed (d .«carry_len» + length xs) values-many (omega arith) consumed-few
+        ∙ ap (λ (k : ℕ). drop k (valuesOf d xs)) consumed-is
+
+    pub carry-fits : length (take (d .«carry_len» + length xs - consumed) (drop consumed values)) ≤ 2048
+    carry-fits = rw carry-back (carry-few finish d s wide xs)
+
+    module _ (to energies : List Float) (t : length to ≡ 1024) (e : energies ≡ sets to 0 (measuredFrom finish d (take (d .«carry_len» + length xs - 0) values)))
+        (frames : ℕ) (f : frames ≡ length (measuredFrom finish d (take (d .«carry_len» + length xs - 0) values))) where
+      pub frames-fit : frames ≤ 1024
+      frames-fit =
+          let few = total-few d s (length xs) most in
+          let n = length-take (d .«carry_len» + length xs - 0) values in
+          let m = measured-few finish d s wide (take (d .«carry_len» + length xs - 0) values) (omega arith) in
+          omega arith
+
+      energies-back : take (frames - 0) energies ≡ measuredOf finish d xs
+      unfolding measuredOf
+      energies-back =
+          let fit = frames-fit in
+          from-start frames energies
+          ∙ ap (take frames) e
+          ∙ put-back to (measuredFrom finish d (take (d .«carry_len» + length xs - 0) values)) frames (sym f) (omega arith)
+          ∙ ap (measuredFrom finish d) values-back
+
+      pub ran-is : (last : Float) → last ≡ lastOf (d .«pre_emphasis_prev») xs → (room : ℕ) (r : Detected)
+          → r
+          ≡ concludedOf finish d
+          (record { «processed_samples» = d .«processed_samples» + length xs; «carry_start» = d .«carry_start» + consumed; «pre_emphasis_prev» = last })
+          (take (d .«carry_len» + length xs - consumed) (drop consumed values))
+          (take (frames - 0) energies)
+          room
+          → r ≡ ranOf finish d xs room
+      unfolding ranOf progressOf
+      ran-is last l room r h = h ∙ rw (l, carry-back, energies-back, consumed-is)
+
+      pub written-is : (out last : List ℕ) → last ≡ reportedIn (rowsDue finish d (d .«processed_samples» + length xs) (dueOf finish d (take (frames - 0) energies))) out → last ≡ writtenOf finish d xs out
+      unfolding writtenOf rowsOfCall
+      written-is out last h = h ∙ rw energies-back

@@ -1,0 +1,112 @@
+use mathlib.Core.Path.{refl, _∙_}
+use Prim.Native.Nat.{_-_, _≤_, _<_}
+use native.Mathlib.Omega.{arith}
+use lib.ListN.{length}
+use Rattle.vad_segments.specs.Closing.{roomOf}
+use Rattle.vad_state.proofs.Parts.{parts, frame-high}
+use Rattle.vad_call.proofs.Calls.{rows-more, due-few, kept-few, needed-due, concluded-refused, concluded-accepted, reported-refused, reported-accepted}
+use borrow.Author.Needs.{needs}
+use Rattle.vad_call.proofs.conclude.Statement.{statement}
+use Rattle.vad_call.proofs.conclude.Tie as tie
+
+due-within : (u : tie.After-unless) → length (u .unless .result .now) ≤ 1024
+due-within u =
+    let s = u .before .before .before .before .before in
+    let h = u .before .holding in
+    let few = due-few (s .args .finish) (s .args .detector) (s .args .energies .now) (h .result) (h .ensures) (u .unless .result .now) (u .unless .ensures) in
+    let most = s .pre .1 .2 in
+    omega arith
+
+holding-requires : tie.Need-holding-requires
+holding-requires c κs = search needs
+
+unless-requires : tie.Need-unless-requires
+unless-requires c κs = search needs
+
+verdict-requires : tie.Need-verdict-requires
+verdict-requires c κs =
+    let s = c .before .before .before .before .before in
+    (s .pre .0, (s .pre .1 .0, due-within c))
+
+sub-needed : tie.Need-sub-needed
+sub-needed c =
+    let v = c .before .before in
+    let s = v .before .before .before .before .before .before in
+    let more = rows-more (s .args .finish) (s .args .detector) (s .args .progress .«processed_samples») (v .before .unless .result .now) (v .verdict .result) (v .verdict .ensures) in
+    omega arith
+
+refused-requires : tie.Need-refused-requires
+refused-requires c κs = search needs
+
+returns : tie.Need-returns
+unfolding roomOf
+returns c =
+    let v = c .before .before .before .before in
+    let s = v .before .before .before .before .before .before in
+    let d = s .args .detector in
+    let p = s .args .progress in
+    let es = s .args .energies .now in
+    let out = s .args .rows .now in
+    let holds = v .before .before .holding in
+    let due = v .before .unless in
+    let n = v .verdict .result .track .«rows_reported» - d .track .«rows_reported» in
+    let over : roomOf (length out) < n = c .before .if1 .taken in
+    (c .refused .ensures ∙ concluded-refused (s .args .finish) d es (holds .result) (holds .ensures) (due .result .now) (due .ensures) p (v .verdict .result) (v .verdict .ensures) n refl (s .args .carry .now) (length out) over, reported-refused (s .args .finish) d es (holds .result) (holds .ensures) (due .result .now) (due .ensures) p (v .verdict .result) (v .verdict .ensures) n refl out over)
+
+report-requires : tie.Need-report-requires
+unfolding roomOf
+report-requires c κs =
+    let v = c .before .before .before .before in
+    let s = v .before .before .before .before .before .before in
+    let d = s .args .detector in
+    let n = v .verdict .result .track .«rows_reported» - d .track .«rows_reported» in
+    let room : n ≤ roomOf (length (s .args .rows .now)) = c .before .if1 .left in
+    let needed = needed-due (s .args .finish) d (s .args .progress .«processed_samples») (v .before .unless .result .now) (v .verdict .result) (v .verdict .ensures) n refl in
+    (s .pre .0, ((s .pre .1 .0, due-within (v .before)), (needed, room)))
+
+only-if-requires : tie.Need-only-if-requires
+only-if-requires c κs = search needs
+
+accepted-requires : tie.Need-accepted-requires
+accepted-requires c κs =
+    let h = c .before .before .before .before .before .before .before .before .before .before in
+    let s = h .before .before .before .before in
+    let d = s .args .detector in
+    let sound = parts d (s .pre .0) in
+    (frame-high d sound, (s .pre .1 .1, kept-few (s .args .finish) d (s .args .energies .now) (h .holding .result) (h .holding .ensures) sound (c .only-if .result .now) (c .only-if .ensures)))
+
+same-length : tie.Need-same-length
+same-length c = search needs
+
+returns-2 : tie.Need-returns-2
+unfolding roomOf
+returns-2 c =
+    let v = c .before .before .before .before .before .before .before .before .before in
+    let s = v .before .before .before .before .before .before in
+    let d = s .args .detector in
+    let p = s .args .progress in
+    let es = s .args .energies .now in
+    let out = s .args .rows .now in
+    let holds = v .before .before .holding in
+    let due = v .before .unless in
+    let n = v .verdict .result .track .«rows_reported» - d .track .«rows_reported» in
+    let report = c .before .before .before .before .report in
+    let kept = c .before .only-if in
+    let room : n ≤ roomOf (length out) = c .before .before .before .before .before .before .if1 .left in
+    (concluded-accepted (s .args .finish) d es (holds .result) (holds .ensures) (due .result .now) (due .ensures) p (v .verdict .result) (v .verdict .ensures) n refl (s .args .carry .now) (length out) room (kept .result .now) (kept .ensures) (c .accepted .result) (c .accepted .ensures), reported-accepted (s .args .finish) d es (holds .result) (holds .ensures) (due .result .now) (due .ensures) p (v .verdict .result) (v .verdict .ensures) n refl out room (report .last .1 .1 .1 .1 .1 .0) (report .ensures))
+
+pub conclude-spec : {M : Type 1} → statement M
+conclude-spec =
+    tie.close
+    (tie.spec
+    holding-requires
+    unless-requires
+    verdict-requires
+    sub-needed
+    refused-requires
+    returns
+    report-requires
+    only-if-requires
+    accepted-requires
+    same-length
+    returns-2)

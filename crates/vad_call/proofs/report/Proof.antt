@@ -1,0 +1,60 @@
+use mathlib.Core.Path.{sym, _∙_}
+use native.Mathlib.Omega.{arith}
+use Prim.Native.Nat.{_≤_, _^_}
+use Rattle.vad_segments.specs.Rooms.{Within}
+use Rattle.vad_call.specs.Calls.{rowsDue}
+use Rattle.vad_state.proofs.Parts.{parts, lengths-within, track-within}
+use Rattle.vad_call.proofs.Calls.{seeded-within, grid-low, rows-none, rows-fit, rows-put}
+use borrow.Author.Needs.{needs}
+use Rattle.vad_call.proofs.report.Statement.{statement}
+use Rattle.vad_call.proofs.report.Tie as tie
+
+returns : tie.Need-returns
+returns c =
+    let s = c .before .before .before in
+    rows-none (rowsDue (s .args .finish) (s .args .detector) (s .args .received) (s .args .due .now)) (s .args .rows .now) (sym (c .if1 .taken) ∙ s .pre .1 .1 .0)
+
+seeded-requires : tie.Need-seeded-requires
+seeded-requires c κs = search needs
+
+grid-start-requires : tie.Need-grid-start-requires
+grid-start-requires c κs = search needs
+
+write-rows-requires : tie.Need-write-rows-requires
+write-rows-requires c κs =
+    let s = c .before .before .before .before .before .before .before in
+    let d = s .args .detector in
+    let seed = c .before .before .seeded in
+    let grid = c .before .grid-start in
+    let sound = parts d (s .pre .0) in
+    let room : Within (2 ^ 41) (2 ^ 60) (seed .result) = rw (seed .ensures) (seeded-within d (s .args .due .now) (track-within d sound)) in
+    let first : grid .result ≤ 2 ^ 41 = rw (grid .ensures) (grid-low d sound) in
+    let received = s .pre .1 .0 .0 in (
+      (lengths-within d sound, room),
+      (
+        (omega arith, first, s .pre .1 .0 .1),
+        rows-fit (s .args .finish) d (s .args .received) (s .args .due .now) (seed .result) (seed .ensures) (grid .result) (grid .ensures) (s .args .needed) (s .pre .1 .1 .0) _ (s .pre .1 .1 .1),
+      ),
+    )
+
+same-length : tie.Need-same-length
+same-length c = search needs
+
+returns-2 : tie.Need-returns-2
+returns-2 c =
+    let s = c .before .before .before .before .before .before .before .before .before .before in
+    let seed = c .before .before .before .before .before .seeded in
+    let grid = c .before .before .before .before .grid-start in
+    let written = c .before .before .write-rows in
+    rows-put (s .args .finish) (s .args .detector) (s .args .received) (s .args .due .now) (seed .result) (seed .ensures) (grid .result) (grid .ensures) (s .args .rows .now) (written .last .1 .1 .1 .1 .1 .1 .0) (written .ensures)
+
+pub report-spec : {M : Type 1} → statement M
+report-spec =
+    tie.close
+    (tie.spec
+    returns
+    seeded-requires
+    grid-start-requires
+    write-rows-requires
+    same-length
+    returns-2)

@@ -1,0 +1,358 @@
+// One call: the Rust's `run`, which detect and flush share.
+ghost use mathlib.Core.Path.{_≡_};
+ghost use mathlib.Core.Bool.{true, cond};
+ghost use Prim.Native.Nat.{_+_, _≤_, _^_};
+ghost use mathlib.Core.List.{[]};
+ghost use lib.ListN.{length};
+ghost use lib.Seq.{sets};
+ghost use Rattle.vad_frames.specs.Emphasis.{lastOf};
+ghost use Rattle.vad_segments.specs.Closing.{roomOf, flat};
+ghost use Rattle.vad_state.specs.State.{soundOf};
+ghost use Rattle.vad_call.specs.Calls.{valuesOf, waitingOf, measuredFrom, consumedFrom, holdingWith, dueOf, seededOf, gridStart, verdictOf, rowsDue, advancedOf, refusedBy, acceptedOf, concludedOf, reportedIn, ranOf, writtenOf};
+use vad_frames::Framed;
+use vad_segments::Classified;
+use vad_segments::ROW_FIELDS;
+use vad_segments::Track;
+use vad_state::VadDetector;
+use vad_state::arrays::filled;
+use vad_state::arrays::filled_warmup;
+use vad_state::arrays::put;
+
+// The number of a refusal, 0 for none, and what it carries: 16 the sample's place, 18 the rows needed.
+pub struct Refusal {
+    pub number: u32,
+    pub carries: usize,
+}
+
+// What a call counted: frames judged, the loud and the quiet among them, and rows written; and the floor after it.
+pub struct Tally {
+    pub frames: usize,
+    pub loud: usize,
+    pub quiet: usize,
+    pub noise_floor: f32,
+    pub rows: usize,
+}
+
+// What detect and flush answer: the state is a new one, and the tally filled, only where nothing was refused.
+pub struct Detected {
+    pub refusal: Refusal,
+    pub detector: VadDetector,
+    pub tally: Tally,
+}
+
+// How far the stream has come with a call.
+pub struct Progress {
+    pub processed_samples: u64,
+    pub carry_start: u64,
+    pub pre_emphasis_prev: f32,
+}
+
+// The carry, then the block's values; answers the block's last raw sample.
+fn gather(detector: VadDetector, samples: &[f32], values: &mut [f32]) -> f32
+    requires { ⌜ (detector .«carry_len» ≤ 2048) × (detector .«carry_len» + length (now samples) ≤ length (now values)) ⌝ }
+    ensures { λ r. ⌜ r ≡ lastOf (detector .«pre_emphasis_prev») (now (samples .entry)) ⌝ }
+    ensures { λ _. ⌜ now (values .exit) ≡ sets (now (values .entry)) 0 (valuesOf detector (now (samples .entry))) ⌝ }
+{
+    let carry = detector.carry;
+    let carry_len = detector.carry_len;
+    put(values, &carry[0..carry_len]);
+    let coeff = vad_frames::coefficient(
+        detector.rules.config.has_pre_emphasis,
+        detector.rules.config.pre_emphasis,
+    );
+    vad_frames::pre_emphasize(
+        coeff,
+        detector.pre_emphasis_prev,
+        samples,
+        &mut values[carry_len..],
+    )
+}
+
+// How many frames are held from earlier calls.
+fn waiting(detector: VadDetector) -> usize
+    requires { ⌜ soundOf detector ≡ true ⌝ }
+    ensures { λ r. ⌜ r ≡ length (waitingOf detector) ⌝ }
+{
+    if detector.warming {
+        return detector.held;
+    }
+    0
+}
+
+// The energies held, then those of the frames in the values; answers how many they are in all, and how many values were used up.
+fn measure(detector: VadDetector, values: &[f32], finish: bool, energies: &mut [f32]) -> Framed
+    requires { ⌜ soundOf detector ≡ true ⌝ }
+    requires { ⌜ (length (now values) ≤ 3072) × (length (now energies) ≡ 1024) ⌝ }
+    ensures { λ r. ⌜ r .frames ≡ length (measuredFrom finish detector (now (values .entry))) ⌝ }
+    ensures { λ r. ⌜ r .consumed ≡ consumedFrom finish detector (now (values .entry)) ⌝ }
+    ensures { λ _. ⌜ now (energies .exit) ≡ sets (now (energies .entry)) 0 (measuredFrom finish detector (now (values .entry))) ⌝ }
+{
+    let frame_length = detector.rules.lengths.frame_length;
+    let window = detector.window;
+    let warmup = detector.warmup;
+    let held = waiting(detector);
+    put(energies, &warmup[0..held]);
+    let framed = vad_frames::frame_signal(
+        values,
+        &window[0..frame_length],
+        detector.rules.lengths.hop_length,
+        finish,
+        &mut energies[held..],
+    );
+    let frames = held + framed.frames;
+    Framed {
+        frames,
+        consumed: framed.consumed,
+    }
+}
+
+// Whether frames go on being held.
+fn holding(detector: VadDetector, finish: bool, frames: usize) -> bool
+    ensures { λ r. ⌜ r ≡ holdingWith finish detector frames ⌝ }
+{
+    if !detector.warming {
+        return false;
+    }
+    vad_segments::positions::holds(finish, detector.rules.lengths.warmup_frames, frames)
+}
+
+// The energies if they are held, else none.
+fn only_if(holds: bool, energies: &[f32]) -> &[f32]
+    ensures { λ r. ⌜ now r ≡ cond holds (now (energies .entry)) [] ⌝ }
+{
+    if holds {
+        return energies;
+    }
+    &energies[..0]
+}
+
+// The energies unless they are held.
+fn unless(holds: bool, energies: &[f32]) -> &[f32]
+    ensures { λ r. ⌜ now r ≡ cond holds [] (now (energies .entry)) ⌝ }
+{
+    if holds {
+        return &energies[..0];
+    }
+    energies
+}
+
+// The track that the frames are judged from: as warm-up ends, its floor is the background's.
+fn seeded(detector: VadDetector, due: &[f32]) -> Track
+    ensures { λ r. ⌜ r ≡ seededOf detector (now (due .entry)) ⌝ }
+{
+    let mut track = detector.track;
+    if !detector.warming {
+        return track;
+    }
+    track.noise_floor = vad_segments::seed(
+        detector.rules.config.energy_floor,
+        track.noise_floor,
+        due,
+    );
+    track
+}
+
+fn grid_start(detector: VadDetector) -> u64
+    ensures { λ r. ⌜ r ≡ gridStart detector ⌝ }
+{
+    if detector.warming {
+        return 0;
+    }
+    detector.carry_start
+}
+
+fn verdict(detector: VadDetector, received: u64, due: &[f32], finish: bool) -> Classified
+    requires { ⌜ soundOf detector ≡ true ⌝ }
+    requires { ⌜ (received ≤ 2 ^ 40) × (length (now due) ≤ 1024) ⌝ }
+    ensures { λ r. ⌜ r ≡ verdictOf finish detector received (now (due .entry)) ⌝ }
+{
+    let rules = detector.rules;
+    vad_segments::classify(
+        rules,
+        received,
+        seeded(detector, due),
+        grid_start(detector),
+        due,
+        finish,
+    )
+}
+
+// The rows, judged once more: most calls have none.
+fn report(
+    detector: VadDetector,
+    received: u64,
+    due: &[f32],
+    finish: bool,
+    needed: u64,
+    rows: &mut [u64],
+)
+    requires { ⌜ soundOf detector ≡ true ⌝ }
+    requires { ⌜ (received ≤ 2 ^ 40) × (length (now due) ≤ 1024) ⌝ }
+    requires { ⌜ (needed ≡ length (rowsDue finish detector received (now due))) × (needed ≤ roomOf (length (now rows))) ⌝ }
+    ensures { λ _. ⌜ now (rows .exit) ≡ sets (now (rows .entry)) 0 (flat (rowsDue finish detector received (now (due .entry)))) ⌝ }
+{
+    if needed == 0 {
+        return;
+    }
+    let rules = detector.rules;
+    vad_segments::write_rows(
+        rules,
+        received,
+        seeded(detector, due),
+        grid_start(detector),
+        due,
+        finish,
+        rows,
+    );
+}
+
+// The state after a call that was not refused.
+fn advanced(
+    detector: VadDetector,
+    progress: Progress,
+    holds: bool,
+    carry: &[f32],
+    kept: &[f32],
+    track: Track,
+) -> VadDetector
+    requires { ⌜ detector .rules .lengths .«frame_length» ≤ 2048 ⌝ }
+    requires { ⌜ (length (now carry) ≤ 2048) × (length (now kept) ≤ 300) ⌝ }
+    ensures { λ r. ⌜ r ≡ advancedOf detector progress holds (now (carry .entry)) (now (kept .entry)) track ⌝ }
+{
+    let frame_length = detector.rules.lengths.frame_length;
+    let old = detector.window;
+    let window = filled(&old[0..frame_length]);
+    let values = filled(carry);
+    let warmup = filled_warmup(kept);
+    let rules = detector.rules;
+    VadDetector {
+        rules,
+        window,
+        carry: values,
+        carry_len: carry.len(),
+        carry_start: progress.carry_start,
+        processed_samples: progress.processed_samples,
+        pre_emphasis_prev: progress.pre_emphasis_prev,
+        warming: holds,
+        warmup,
+        held: kept.len(),
+        track,
+    }
+}
+
+fn accepted(
+    detector: VadDetector,
+    progress: Progress,
+    holds: bool,
+    carry: &[f32],
+    kept: &[f32],
+    classified: Classified,
+    rows: usize,
+) -> Detected
+    requires { ⌜ detector .rules .lengths .«frame_length» ≤ 2048 ⌝ }
+    requires { ⌜ (length (now carry) ≤ 2048) × (length (now kept) ≤ 300) ⌝ }
+    ensures { λ r. ⌜ r ≡ acceptedOf detector progress holds (now (carry .entry)) (now (kept .entry)) classified rows ⌝ }
+{
+    let track = classified.track;
+    Detected {
+        refusal: Refusal {
+            number: 0,
+            carries: 0,
+        },
+        detector: advanced(detector, progress, holds, carry, kept, track),
+        tally: Tally {
+            frames: classified.frames,
+            loud: classified.loud,
+            quiet: classified.quiet,
+            noise_floor: classified.track.noise_floor,
+            rows,
+        },
+    }
+}
+
+// The state comes back, and nothing was counted.
+pub fn refused(number: u32, carries: usize, detector: VadDetector) -> Detected
+    ensures { λ r. ⌜ r ≡ refusedBy number carries detector ⌝ }
+{
+    Detected {
+        refusal: Refusal { number, carries },
+        detector,
+        tally: Tally {
+            frames: 0,
+            loud: 0,
+            quiet: 0,
+            noise_floor: 0.0,
+            rows: 0,
+        },
+    }
+}
+
+// Holds the energies or judges them. 18 is known before a row is written: the rows are counted first.
+fn conclude(
+    detector: VadDetector,
+    progress: Progress,
+    carry: &[f32],
+    energies: &[f32],
+    finish: bool,
+    rows: &mut [u64],
+) -> Detected
+    requires { ⌜ soundOf detector ≡ true ⌝ }
+    requires { ⌜ (progress .«processed_samples» ≤ 2 ^ 40) × (length (now carry) ≤ 2048) × (length (now energies) ≤ 1024) ⌝ }
+    ensures { λ r. ⌜ r ≡ concludedOf finish detector progress (now (carry .entry)) (now (energies .entry)) (length (now (rows .entry))) ⌝ }
+    ensures { λ _. ⌜ now (rows .exit) ≡ reportedIn (rowsDue finish detector (progress .«processed_samples») (dueOf finish detector (now (energies .entry)))) (now (rows .entry)) ⌝ }
+{
+    let holds = holding(detector, finish, energies.len());
+    let due = unless(holds, energies);
+    let classified = verdict(detector, progress.processed_samples, due, finish);
+    let needed = classified.track.rows_reported - detector.track.rows_reported;
+    if ((rows.len() / ROW_FIELDS) as u64) < needed {
+        return refused(18, needed as usize, detector);
+    }
+    report(
+        detector,
+        progress.processed_samples,
+        due,
+        finish,
+        needed,
+        rows,
+    );
+    accepted(
+        detector,
+        progress,
+        holds,
+        carry,
+        only_if(holds, energies),
+        classified,
+        needed as usize,
+    )
+}
+
+// A block heard, or with `finish` the stream's end.
+pub fn run(detector: VadDetector, samples: &[f32], finish: bool, rows: &mut [u64]) -> Detected
+    requires { ⌜ soundOf detector ≡ true ⌝ }
+    requires { ⌜ (length (now samples) ≤ 1024) × (detector .«processed_samples» + length (now samples) ≤ 2 ^ 40) ⌝ }
+    ensures { λ r. ⌜ r ≡ ranOf finish detector (now (samples .entry)) (length (now (rows .entry))) ⌝ }
+    ensures { λ _. ⌜ now (rows .exit) ≡ writtenOf finish detector (now (samples .entry)) (now (rows .entry)) ⌝ }
+{
+    let mut values = [0.0; 3072];
+    let last = gather(detector, samples, &mut values);
+    let total = detector.carry_len + samples.len();
+    let mut energies = [0.0; 1024];
+    let framed = measure(detector, &values[0..total], finish, &mut energies);
+    let frames = framed.frames;
+    let consumed = framed.consumed;
+    let processed_samples = detector.processed_samples + samples.len() as u64;
+    let carry_start = detector.carry_start + consumed as u64;
+    conclude(
+        detector,
+        Progress {
+            processed_samples,
+            carry_start,
+            pre_emphasis_prev: last,
+        },
+        &values[consumed..total],
+        &energies[0..frames],
+        finish,
+        rows,
+    )
+}

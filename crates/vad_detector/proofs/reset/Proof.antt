@@ -1,0 +1,37 @@
+use mathlib.Core.Path.{_≡_, sym, _∙_}
+use mathlib.Core.Bool.{true}
+use borrow.Author.Tests.{not-true, not-false}
+use Rattle.vad_state.specs.State.{soundOf}
+use Rattle.vad_detector.specs.Opening.{resetOf}
+use borrow.Author.Needs.{needs}
+use Rattle.vad_detector.proofs.reset.Statement.{statement}
+use Rattle.vad_detector.proofs.reset.Tie as tie
+
+taken : (k : tie.Else1) → soundOf (k .before .before .args .detector) ≡ true
+taken k = sym (k .before .sound .ensures) ∙ not-false _ (k .if1 .left)
+
+sound-requires : tie.Need-sound-requires
+sound-requires c κs = search needs
+
+returns : tie.Need-returns
+unfolding resetOf
+returns c = simp (sym (c .before .sound .ensures) ∙ not-true _ (c .if1 .taken))
+
+start-allowed-requires : tie.Need-start-allowed-requires
+start-allowed-requires c κs = search needs
+
+returns-2 : tie.Need-returns-2
+unfolding resetOf
+returns-2 c = simp (taken (c .before .before), sym (c .before .start-allowed .ensures) ∙ not-true _ (c .if2 .taken))
+
+restarted-requires : tie.Need-restarted-requires
+restarted-requires c κs = taken (c .before .before)
+
+returns-3 : tie.Need-returns-3
+unfolding resetOf
+returns-3 c =
+    let k = c .before in
+    simp (taken (k .before .before), sym (k .before .start-allowed .ensures) ∙ not-false _ (k .if2 .left), c .restarted .ensures)
+
+pub reset-spec : {M : Type 1} → statement M
+reset-spec = tie.close (tie.spec sound-requires returns start-allowed-requires returns-2 restarted-requires returns-3)

@@ -1,0 +1,4 @@
+pub mod Opening
+pub mod Entries
+pub mod Readings
+pub mod Run

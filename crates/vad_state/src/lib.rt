@@ -1,0 +1,281 @@
+// The detector's state, and which states are sound: refusal 19. Each part is tested before it is added or multiplied, since a state from elsewhere can hold any numbers.
+pub mod arrays;
+
+ghost use mathlib.Core.Path.{_≡_};
+ghost use mathlib.Core.Bool.{not, _&&_, _||_};
+ghost use Prim.Native.Nat.{_≤_, _^_};
+ghost use lib.ListN.{length};
+ghost use Rattle.vad_state.specs.State.{handedIn, sameLengths, settingsSound, carrySound, trackSound, isClosed, heldSound, segmentSound, activeSound, soundOf};
+use vad_config::Lengths;
+use vad_segments::ActiveSegment;
+use vad_segments::ActiveSegmentState;
+use vad_segments::Rules;
+use vad_segments::Track;
+
+// The Rust's `VadDetector` and `DetectorState`. Past the used part of an array an accepted call leaves zeros.
+pub struct VadDetector {
+    pub rules: Rules,
+    // As handed in at opening, a frame long.
+    pub window: [f32; 2048],
+    // Pre-emphasized values that no complete frame has used up yet.
+    pub carry: [f32; 2048],
+    pub carry_len: usize,
+    // Where the carry starts in the stream.
+    pub carry_start: u64,
+    // Samples received so far.
+    pub processed_samples: u64,
+    // The last raw sample.
+    pub pre_emphasis_prev: f32,
+    // Whether the first frames are still held back, until the background can be estimated from them.
+    pub warming: bool,
+    // The energies of the frames held.
+    pub warmup: [f32; 300],
+    pub held: usize,
+    pub track: Track,
+}
+
+// Of 14 what does not speak of the window's length.
+pub fn handed_in(window: &[f32], rise: f32) -> bool
+    ensures { λ r. ⌜ r ≡ handedIn (now (window .entry)) rise ⌝ }
+{
+    if !ranges::all_inside(0.0, window, 1.0) {
+        return false;
+    }
+    ranges::inside(0.5, rise, 1.0)
+}
+
+fn same_lengths(a: Lengths, b: Lengths) -> bool
+    ensures { λ r. ⌜ r ≡ sameLengths a b ⌝ }
+{
+    if a.frame_length != b.frame_length {
+        return false;
+    }
+    if a.hop_length != b.hop_length {
+        return false;
+    }
+    if a.warmup_frames != b.warmup_frames {
+        return false;
+    }
+    a.padding_samples == b.padding_samples
+}
+
+// Only the frame's part of the window is looked at.
+fn settings_sound(rules: Rules, window: &[f32]) -> bool
+    requires { ⌜ length (now window) ≡ 2048 ⌝ }
+    ensures { λ r. ⌜ r ≡ settingsSound rules (now (window .entry)) ⌝ }
+{
+    let config = rules.config;
+    if vad_config::validate(config) != 0 {
+        return false;
+    }
+    let lengths = rules.lengths;
+    if !same_lengths(lengths, vad_config::lengths_of(config)) {
+        return false;
+    }
+    let frame_length = lengths.frame_length;
+    handed_in(&window[0..frame_length], rules.speech_floor_rise)
+}
+
+// Only the carry's own part of its array is looked at.
+fn carry_sound(
+    frame_length: usize,
+    carry: &[f32],
+    carry_len: usize,
+    carry_start: u64,
+    received: u64,
+    last: f32,
+) -> bool
+    requires { ⌜ («frame_length» ≤ 2048) × (length (now carry) ≡ 2048) ⌝ }
+    ensures { λ r. ⌜ r ≡ carrySound «frame_length» (now (carry .entry)) «carry_len» «carry_start» received last ⌝ }
+{
+    if frame_length <= carry_len {
+        return false;
+    }
+    if received < carry_start {
+        return false;
+    }
+    if received - carry_start != carry_len as u64 {
+        return false;
+    }
+    if !ranges::all_inside(-131072.0, &carry[0..carry_len], 131072.0) {
+        return false;
+    }
+    ranges::inside(-65536.0, last, 65536.0)
+}
+
+fn track_sound(energy_floor: f32, received: u64, track: Track) -> bool
+    ensures { λ r. ⌜ r ≡ trackSound «energy_floor» received track ⌝ }
+{
+    if !float::is_finite(track.noise_floor) {
+        return false;
+    }
+    if track.noise_floor < energy_floor {
+        return false;
+    }
+    if 0x100_0000_0000 < received {
+        return false;
+    }
+    if received < track.last_segment_end {
+        return false;
+    }
+    if track.last_segment_end < track.talk_samples {
+        return false;
+    }
+    track.rows_reported <= received
+}
+
+fn is_closed(active: ActiveSegment) -> bool
+    ensures { λ r. ⌜ r ≡ isClosed active ⌝ }
+{
+    match active {
+        ActiveSegment::Closed => true,
+        ActiveSegment::Open(_) => false,
+    }
+}
+
+fn held_sound(
+    lengths: Lengths,
+    warmup: &[f32],
+    held: usize,
+    carry_start: u64,
+    active: ActiveSegment,
+) -> bool
+    requires { ⌜ (lengths .«warmup_frames» ≤ 300) × (lengths .«hop_length» ≤ 2048) × (length (now warmup) ≡ 300) ⌝ }
+    ensures { λ r. ⌜ r ≡ heldSound lengths (now (warmup .entry)) held «carry_start» active ⌝ }
+{
+    if lengths.warmup_frames <= held {
+        return false;
+    }
+    if (held * lengths.hop_length) as u64 != carry_start {
+        return false;
+    }
+    if !ranges::all_inside(0.0, &warmup[0..held], 131072.0) {
+        return false;
+    }
+    is_closed(active)
+}
+
+fn segment_sound(
+    hangover_frames: u64,
+    received: u64,
+    last_segment_end: u64,
+    segment: ActiveSegmentState,
+) -> bool
+    requires { ⌜ received ≤ 2 ^ 40 ⌝ }
+    ensures { λ r. ⌜ r ≡ segmentSound «hangover_frames» received «last_segment_end» segment ⌝ }
+{
+    if segment.start_sample < last_segment_end {
+        return false;
+    }
+    if received < segment.start_sample {
+        return false;
+    }
+    if received < segment.last_end_sample {
+        return false;
+    }
+    if segment.frame_count == 0 {
+        return false;
+    }
+    if received < segment.frame_count {
+        return false;
+    }
+    if 1024 * segment.frame_count < segment.score_total {
+        return false;
+    }
+    if !ranges::inside(0.0, segment.energy_sum, 1152921504606846976.0) {
+        return false;
+    }
+    segment.silence_run <= hangover_frames
+}
+
+fn active_sound(
+    hangover_frames: u64,
+    received: u64,
+    last_segment_end: u64,
+    active: ActiveSegment,
+) -> bool
+    requires { ⌜ received ≤ 2 ^ 40 ⌝ }
+    ensures { λ r. ⌜ r ≡ activeSound «hangover_frames» received «last_segment_end» active ⌝ }
+{
+    match active {
+        ActiveSegment::Closed => true,
+        ActiveSegment::Open(segment) => {
+            segment_sound(hangover_frames, received, last_segment_end, segment)
+        }
+    }
+}
+
+// The settings, and the carry, which sound settings bound.
+fn kept_sound(detector: VadDetector) -> bool
+    ensures { λ r. ⌜ r ≡ (settingsSound (detector .rules) (detector .window) && carrySound (detector .rules .lengths .«frame_length») (detector .carry) (detector .«carry_len») (detector .«carry_start») (detector .«processed_samples») (detector .«pre_emphasis_prev»)) ⌝ }
+{
+    let rules = detector.rules;
+    let window = detector.window;
+    if !settings_sound(rules, &window) {
+        return false;
+    }
+    let carry = detector.carry;
+    carry_sound(
+        detector.rules.lengths.frame_length,
+        &carry,
+        detector.carry_len,
+        detector.carry_start,
+        detector.processed_samples,
+        detector.pre_emphasis_prev,
+    )
+}
+
+// What was heard, and the segment that is open.
+fn heard_sound(detector: VadDetector) -> bool
+    ensures { λ r. ⌜ r ≡ (trackSound (detector .rules .config .«energy_floor») (detector .«processed_samples») (detector .track) && activeSound (detector .rules .config .«hangover_frames») (detector .«processed_samples») (detector .track .«last_segment_end») (detector .track .«active_segment»)) ⌝ }
+{
+    let track = detector.track;
+    if !track_sound(
+        detector.rules.config.energy_floor,
+        detector.processed_samples,
+        track,
+    ) {
+        return false;
+    }
+    let active = track.active_segment;
+    active_sound(
+        detector.rules.config.hangover_frames,
+        detector.processed_samples,
+        detector.track.last_segment_end,
+        active,
+    )
+}
+
+// The frames held back: nothing is asked of them after the warm-up.
+fn warmup_sound(detector: VadDetector) -> bool
+    requires { ⌜ (detector .rules .lengths .«warmup_frames» ≤ 300) × (detector .rules .lengths .«hop_length» ≤ 2048) ⌝ }
+    ensures { λ r. ⌜ r ≡ (not (detector .warming) || heldSound (detector .rules .lengths) (detector .warmup) (detector .held) (detector .«carry_start») (detector .track .«active_segment»)) ⌝ }
+{
+    if !detector.warming {
+        return true;
+    }
+    let rules = detector.rules;
+    let lengths = rules.lengths;
+    let track = detector.track;
+    let active = track.active_segment;
+    let warmup = detector.warmup;
+    held_sound(
+        lengths,
+        &warmup,
+        detector.held,
+        detector.carry_start,
+        active,
+    )
+}
+
+pub fn sound(detector: VadDetector) -> bool
+    ensures { λ r. ⌜ r ≡ soundOf detector ⌝ }
+{
+    if !kept_sound(detector) {
+        return false;
+    }
+    if !heard_sound(detector) {
+        return false;
+    }
+    warmup_sound(detector)
+}
