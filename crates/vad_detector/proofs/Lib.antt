@@ -2,3 +2,4 @@ pub mod Answers
 pub mod Running
 pub mod Runs
 pub mod Zeros
+pub mod Unique

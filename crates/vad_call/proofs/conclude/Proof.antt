@@ -1,5 +1,5 @@
 use mathlib.Core.Path.{refl, _∙_}
-use Prim.Native.Nat.{_-_, _≤_, _<_}
+use Prim.Native.Nat.{_-_, _/_, _≤_, _<_}
 use native.Mathlib.Omega.{arith}
 use lib.ListN.{length}
 use Rattle.vad_segments.specs.Closing.{roomOf}
@@ -16,6 +16,10 @@ due-within u =
     let few = due-few (s .args .finish) (s .args .detector) (s .args .energies .now) (h .result) (h .ensures) (u .unless .result .now) (u .unless .ensures) in
     let most = s .pre .1 .2 in
     omega arith
+
+-- past the test the rows fit
+rows-fit : (k : tie.Else1) → let s = k .before .before .before .before .before .before .before .before .before in k .before .before .before .verdict .result .track .«rows_reported» - s .args .detector .track .«rows_reported» ≤ length (s .args .rows .now) / 7
+rows-fit k = omega arith
 
 holding-requires : tie.Need-holding-requires
 holding-requires c κs = search needs
@@ -50,7 +54,7 @@ returns c =
     let holds = v .before .before .holding in
     let due = v .before .unless in
     let n = v .verdict .result .track .«rows_reported» - d .track .«rows_reported» in
-    let over : roomOf (length out) < n = c .before .if1 .taken in
+    let over : length out / 7 < n = omega arith in
     (c .refused .ensures ∙ concluded-refused (s .args .finish) d es (holds .result) (holds .ensures) (due .result .now) (due .ensures) p (v .verdict .result) (v .verdict .ensures) n refl (s .args .carry .now) (length out) over, reported-refused (s .args .finish) d es (holds .result) (holds .ensures) (due .result .now) (due .ensures) p (v .verdict .result) (v .verdict .ensures) n refl out over)
 
 report-requires : tie.Need-report-requires
@@ -60,7 +64,7 @@ report-requires c κs =
     let s = v .before .before .before .before .before .before in
     let d = s .args .detector in
     let n = v .verdict .result .track .«rows_reported» - d .track .«rows_reported» in
-    let room : n ≤ roomOf (length (s .args .rows .now)) = c .before .if1 .left in
+    let room = rows-fit (c .before) in
     let needed = needed-due (s .args .finish) d (s .args .progress .«processed_samples») (v .before .unless .result .now) (v .verdict .result) (v .verdict .ensures) n refl in
     (s .pre .0, ((s .pre .1 .0, due-within (v .before)), (needed, room)))
 
@@ -92,7 +96,7 @@ returns-2 c =
     let n = v .verdict .result .track .«rows_reported» - d .track .«rows_reported» in
     let report = c .before .before .before .before .report in
     let kept = c .before .only-if in
-    let room : n ≤ roomOf (length out) = c .before .before .before .before .before .before .if1 .left in
+    let room = rows-fit (c .before .before .before .before .before .before) in
     (concluded-accepted (s .args .finish) d es (holds .result) (holds .ensures) (due .result .now) (due .ensures) p (v .verdict .result) (v .verdict .ensures) n refl (s .args .carry .now) (length out) room (kept .result .now) (kept .ensures) (c .accepted .result) (c .accepted .ensures), reported-accepted (s .args .finish) d es (holds .result) (holds .ensures) (due .result .now) (due .ensures) p (v .verdict .result) (v .verdict .ensures) n refl out room (report .last .1 .1 .1 .1 .1 .0) (report .ensures))
 
 pub conclude-spec : {M : Type 1} → statement M

@@ -1,0 +1,24 @@
+-- Two answers that meet a public function's contract are equal: each contract is an equation.
+use mathlib.Core.Path.{_≡_}
+use mathlib.Core.Bool.{Bool}
+use mathlib.Core.List.{List}
+use Prim.Native.Nat.{ℕ}
+use lib.Seq.{sets}
+use lib.Ieee.{Float}
+use Rattle.float.proofs.Unique.{only}
+use Rattle.vad_state.specs.State.{handedIn, soundOf}
+use Rattle.vad_state.specs.Arrays.{filledOf}
+use Rattle.vad_state.specs.declared.VadDetector.{VadDetector}
+
+pub sound-unique : (d : VadDetector) (r q : Bool) → r ≡ soundOf d → q ≡ soundOf d → r ≡ q
+sound-unique d r q = only
+
+pub handed-in-unique : (window : List Float) (rise : Float) (r q : Bool) → r ≡ handedIn window rise → q ≡ handedIn window rise → r ≡ q
+handed-in-unique window rise r q = only
+
+-- for both lengths of arrays
+pub filled-unique : (n : ℕ) (xs r q : List Float) → r ≡ filledOf n xs → q ≡ filledOf n xs → r ≡ q
+filled-unique n xs r q = only
+
+pub put-unique : (to xs r q : List Float) → r ≡ sets to 0 xs → q ≡ sets to 0 xs → r ≡ q
+put-unique to xs r q = only
