@@ -210,6 +210,49 @@ unreached =
 abbrev pub NotKept : Type 0
 NotKept = (soundOf unreached ≡ true) × (flushOf unreached 7 .refusal .number ≡ 0) × (soundOf (flushOf unreached 7 .detector) ≡ false)
 
-pub ends : NoRoom × ExtraFrame × FlushOfNothing × NewGrid × NotKept
+-- another such state, in frames of 16 samples and hops of 8: two frames are held, and of the second only half has come. Its end is clipped to the sound received, so a flush reports nothing, and the state stays sound.
+abbrev pub halfHeard : VadDetector
+halfHeard =
+    record {
+      rules = record {
+        config = record {
+          «sample_rate» = 8000;
+          «frame_duration» = 2000000;
+          «frame_overlap» = ofBits binary32 0x3F00_0000;
+          «has_pre_emphasis» = false;
+          «pre_emphasis» = ofBits binary32 0;
+          «activation_ratio» = ofBits binary32 0x4080_0000;
+          «release_ratio» = ofBits binary32 0x4000_0000;
+          «min_speech_energy» = ofBits binary32 0;
+          «noise_smoothing» = ofBits binary32 0;
+          «energy_floor» = ofBits binary32 0x3A80_0000;
+          «hangover_frames» = 1;
+          «speech_padding» = 5000000;
+          «min_speech_frames» = 1;
+          «stream_start_time» = 0;
+        };
+        lengths = record { «frame_length» = 16; «hop_length» = 8; «warmup_frames» = 300; «padding_samples» = 40 };
+        «speech_floor_rise» = ofBits binary32 0x3F00_0000;
+      };
+      window = filledOf 2048 (replicate 16 (ofBits binary32 0x3F80_0000));
+      carry = filledOf 2048 [];
+      «carry_len» = 0;
+      «carry_start» = 16;
+      «processed_samples» = 16;
+      «pre_emphasis_prev» = ofBits binary32 0x3F80_0000;
+      warming = true;
+      warmup = filledOf 300 (ofBits binary32 0 ∷ ofBits binary32 0x3F80_0000 ∷ []);
+      held = 2;
+      track = record { «noise_floor» = ofBits binary32 0x3A80_0000; «last_segment_end» = 16; «rows_reported» = 0; «talk_samples» = 0; «active_segment» = Closed };
+    }
+
+abbrev pub Clipped : Type 0
+Clipped =
+    (soundOf halfHeard ≡ true)
+    × (flushOf halfHeard 7 .refusal .number ≡ 0)
+    × (flushOf halfHeard 7 .tally ≡ record { frames = 2; loud = 1; quiet = 1; «noise_floor» = ofBits binary32 0x3F00_2000; rows = 0 })
+    × (soundOf (flushOf halfHeard 7 .detector) ≡ true)
+
+pub ends : NoRoom × ExtraFrame × FlushOfNothing × NewGrid × NotKept × Clipped
 unfolding filledOf freshTrack freshOf rulesOf openOf openRefusal handedOver handedIn allWithin refusalOf firstOf framingRefusals levelRefusals limitRefusals lengthsOf frameOf hopOf warmupOf paddingOf frameLength frameLengthOf hopLengthOf warmupFramesOf secondsOf paddingSamplesOf inUnit rateIn durationIn startIn roundOf ceilOf ofBits ofInt le lt add sub mul div neg sum round isNan checkOf cleanOf leadingOf detectOf ranOf concludedOf acceptedOf advancedOf tallyOf refusedBy noTally tooMany roomOf valuesOf waitingOf measuredFrom measuredOf consumedFrom carryAfter progressOf holdingWith holdingOf keptOf dueOf seededOf gridStart framesDue verdictOf rowsDue holdsOf emphasized emphasizedOf coefficientOf lastOf energiesOf energyOf meanSquareOf squaresFrom squareOf framesOf framesFrom taken framedOf consumedOf fusedOf rootOf rootFrom integerRoot twiceRoot flooredTo seedOf framesAt callRows callTrack classifiedOf rowsOf trackAfter loudsOf countOf endedOf reported soundOf settingsSound sameLengths carrySound trackSound heldSound activeSound isClosed inDomain windowOf carriedOf heldOf receivedIn reportedIn writtenOf rowsOfCall flushOf flushRows leastFrom lesserOf frameAt judgedOf turnedOf floorAfter pausedOf pausedBy heardOf extendedBy segmentFor begunAt activeTo closedOf closedBy settledOf finalizedOf timedOf tooShort droppedOf paddedEnd paddedStart talkOf flat fieldsOf chunkOf timeAt meanEnergyOf floorOf atLeast weightOf inSpeechOf loudOf requiredOf ratioOf scoreOf reaches largest timeOf timeOfSampleOf toBits segmentRead openStart segmentSound detectRows
-ends = ((refl, refl), (refl, refl), (refl, refl), (refl, refl, refl), (refl, refl, refl))
+ends = ((refl, refl), (refl, refl), (refl, refl), (refl, refl, refl), (refl, refl, refl), (refl, refl, refl, refl))

@@ -2,7 +2,7 @@ use mathlib.Core.Path.{refl, _∙_}
 use Prim.Native.Nat.{_-_, _/_, _≤_, _<_}
 use native.Mathlib.Omega.{arith}
 use lib.ListN.{length}
-use Rattle.vad_segments.specs.Closing.{roomOf}
+use Rattle.vad_segments.specs.Closing.{rowWidth, roomOf}
 use Rattle.vad_state.proofs.Parts.{parts, frame-high}
 use Rattle.vad_call.proofs.Calls.{rows-more, due-few, kept-few, needed-due, concluded-refused, concluded-accepted, reported-refused, reported-accepted}
 use borrow.Author.Needs.{needs}
@@ -18,7 +18,7 @@ due-within u =
     omega arith
 
 -- past the test the rows fit
-rows-fit : (k : tie.Else1) → let s = k .before .before .before .before .before .before .before .before .before in k .before .before .before .verdict .result .track .«rows_reported» - s .args .detector .track .«rows_reported» ≤ length (s .args .rows .now) / 7
+rows-fit : (k : tie.Else1) → let s = k .before .before .before .before .before .before .before .before .before in k .before .before .before .verdict .result .track .«rows_reported» - s .args .detector .track .«rows_reported» ≤ length (s .args .rows .now) / rowWidth
 rows-fit k = omega arith
 
 holding-requires : tie.Need-holding-requires
@@ -54,7 +54,7 @@ returns c =
     let holds = v .before .before .holding in
     let due = v .before .unless in
     let n = v .verdict .result .track .«rows_reported» - d .track .«rows_reported» in
-    let over : length out / 7 < n = omega arith in
+    let over : length out / rowWidth < n = omega arith in
     (c .refused .ensures ∙ concluded-refused (s .args .finish) d es (holds .result) (holds .ensures) (due .result .now) (due .ensures) p (v .verdict .result) (v .verdict .ensures) n refl (s .args .carry .now) (length out) over, reported-refused (s .args .finish) d es (holds .result) (holds .ensures) (due .result .now) (due .ensures) p (v .verdict .result) (v .verdict .ensures) n refl out over)
 
 report-requires : tie.Need-report-requires
