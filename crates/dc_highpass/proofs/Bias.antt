@@ -9,7 +9,7 @@ use native.Mathlib.Omega.{arith}
 use lib.Dec.{T, ltb, ltb→lt, lit≤, lit<}
 use lib.IntN.{ℤ, pos, negsuc}
 use lib.ListN.{length}
-use lib.Ieee.{Float, nan, inf, fin, binary32, ofBits, ofInt, fits, up, down, lt, le, neg, add, sub, mul, round}
+use lib.Ieee.{Float, nan, inf, fin, binary32, ofBits, ofInt, fits, up, down, lt, neg, add, sub, mul, round}
 use lib.Ieee.Scale.{finite}
 use lib.Ieee.Fits.{down-pos}
 use lib.Ieee.Bits.{is-true}
@@ -17,13 +17,12 @@ use Rattle.float.specs.Fused.{fusedOf}
 use Rattle.float.specs.declared.Rounded.{Rounded}
 use Rattle.float.proofs.Sticky.{side}
 use Rattle.float.proofs.Words.{T-of}
-use Rattle.float.proofs.Bounds.{fits-parts, Mag, Yields, mag-finite, mag-of-range, held-small, held-scaled, held-own, over-value, mul-mag, add-mag, sub-mag, div-mag, fused-mag}
+use Rattle.float.proofs.Bounds.{fits-parts, Mag, Yields, mag-finite, held-small, held-scaled, held-own, over-value, mul-mag, add-mag, sub-mag, div-mag, fused-mag}
 use Rattle.ranges.specs.Ranges.{limit, inDomain, cleanOf}
-use Rattle.ranges.proofs.Laws.{leading-first}
+use Rattle.ranges.proofs.Laws.{both, leading-first, sample-mag}
 use Rattle.dc_highpass.specs.Biquad.{orNan}
 use Rattle.dc_highpass.specs.Settings.{zero as +0, one, alphaTaken}
 use Rattle.dc_highpass.specs.Filter.{sumFrom, meanOf, biasOf}
-use Rattle.dc_highpass.proofs.Finite.{both}
 
 -- ---- alpha is at most 1 − 2^-24
 under-one : (W P : ℕ) → W < 16777216 → W < P → W * 16777216 ≤ 16777215 * P
@@ -46,12 +45,6 @@ weight (fin false m e) t h l =
     under-one W P (small m e (fits-parts binary32 false m e t .0) less) less
 
 -- ---- the mean of a block of the domain is at most 65,536
-sample-mag : (x : Float) → inDomain x ≡ true → Mag x 65536 1
-unfolding inDomain ofBits
-sample-mag x h =
-    let t = both (le (neg limit) x) (le x limit) h in
-    mag-of-range x limit 65536 1 (refl, refl) (subst T (sym (t .0)) tt) (subst T (sym (t .1)) tt)
-
 clean-first : (x : Float) (xs : List Float) → suc (length xs) ≤ cleanOf (x ∷ xs) → (inDomain x ≡ true) × (length xs ≤ cleanOf xs)
 unfolding cleanOf inDomain
 clean-first x xs h = leading-first (neg limit) limit x xs h

@@ -1,10 +1,11 @@
 -- A finite result has finite operands all the way back, so that one test at a sample's end is refusal 26. Assumes nothing.
 use mathlib.Core.Path.{_≡_, refl, sym}
-use mathlib.Core.Bool.{Bool, true, false, _&&_, cond, true≢false}
+use mathlib.Core.Bool.{Bool, true, false, cond, true≢false}
 use mathlib.Core.List.{List, [], _∷_, _++_}
 use lib.Ieee.{Float, nan, inf, fin, binary32, add, sub, mul, neg}
 use lib.Ieee.Scale.{finite}
 use Rattle.float.specs.Fused.{fusedOf}
+use Rattle.ranges.proofs.Laws.{both}
 use Rattle.dc_highpass.specs.Biquad.{orNan, outputOf}
 use Rattle.dc_highpass.specs.Filter.{centredOf, heard, stagedBy, passOf}
 use Rattle.dc_highpass.specs.Operations.{stageResults, stagesResults, sampleResults, everyFinite}
@@ -41,11 +42,6 @@ fused-finite (fin s m e) (fin t n d) (inf u) h = not-finite h
 fused-finite (fin s m e) (fin t n d) (fin u p g) h = (refl, refl, refl)
 
 -- ---- a stage
-pub both : (a b : Bool) → a && b ≡ true → (a ≡ true) × (b ≡ true)
-both true true h = (refl, refl)
-both true false h = not-finite h
-both false b h = not-finite h
-
 -- what a finite output of a stage says of its input and of its six operations
 pub record Passes (b : Biquad) (x : Float) : Type 0 where
   pub input : finite x ≡ true

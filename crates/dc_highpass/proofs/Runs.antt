@@ -10,6 +10,7 @@ use lib.ListN.{length, getD}
 use lib.Ieee.{Float, binary32, ofBits, sub}
 use lib.Ieee.Scale.{finite}
 use Rattle.ranges.specs.Ranges.{cleanOf}
+use Rattle.ranges.proofs.Laws.{both}
 use Rattle.dc_highpass.specs.Biquad.{nextOf}
 use Rattle.dc_highpass.specs.Settings.{refusalOf, remembersFinite, soundOf}
 use Rattle.dc_highpass.specs.Filter.{coefficientsOf, refused, freshOf, nothingOpen, openOf, listens, biasOf, biasedOf, centredOf, heard, stagedBy, passOf, resultsOf, afterOf, checkOf, ranOf, processOf, resetOf}
@@ -23,7 +24,7 @@ use Rattle.dc_highpass.specs.declared.PreprocessingConfig.{Preprocessing
 use Rattle.dc_highpass.specs.declared.DcHighPassFilter.{DcHighPassFilter}
 use Rattle.dc_highpass.specs.declared.Processed.{Processed}
 use Rattle.dc_highpass.specs.declared.Opened.{Opened}
-use Rattle.dc_highpass.proofs.Finite.{both, sub-finite, stage-passes}
+use Rattle.dc_highpass.proofs.Finite.{sub-finite, stage-passes}
 
 -- ---- the parts of a sound state
 record Parts (f : DcHighPassFilter) : Type 0 where

@@ -6,11 +6,13 @@ use Prim.Native.Nat.{suc, _≤_}
 use native.Mathlib.Omega.{arith}
 use lib.Dec.{eqb, eqb·suc-suc, eqb·zero-suc}
 use lib.ListN.{length}
-use lib.Ieee.{Float, neg}
-use Rattle.lists.specs.Every.{Every}
+use lib.Ieee.{Float, ofBits, le, neg}
+use Rattle.lists.specs.Every.{Every, every-map}
+use Rattle.float.proofs.Words.{T-of}
+use Rattle.float.proofs.Bounds.{Mag, mag-of-range}
 use Rattle.ranges.specs.Ranges.{within, leadingOf, allWithin, limit, inDomain, cleanOf}
 
-both : (a b : Bool) → a && b ≡ true → (a ≡ true) × (b ≡ true)
+pub both : (a b : Bool) → a && b ≡ true → (a ≡ true) × (b ≡ true)
 both true b h = (refl, h)
 both false b h = absurd (true≢false (sym h))
 
@@ -55,6 +57,15 @@ module _ (low high : Float) where
       go true ih = eqb·suc-suc (leadingOf low xs high) (length xs) ∙ ih
       go false ih = eqb·zero-suc (length xs)
 
+-- ---- samples
+
+pub sample-mag : (x : Float) → inDomain x ≡ true → Mag x 65536 1
+unfolding inDomain ofBits
+sample-mag x h = let t = both (le (neg limit) x) (le x limit) h in mag-of-range x limit 65536 1 (refl, refl) (T-of (t .0)) (T-of (t .1))
+
 pub clean-all : (xs : List Float) → length xs ≤ cleanOf xs → Every (λ x. inDomain x ≡ true) xs
 unfolding cleanOf inDomain
 clean-all xs h = leading-all (neg limit) limit xs h
+
+pub clean-mags : (xs : List Float) → length xs ≤ cleanOf xs → Every (λ x. Mag x 65536 1) xs
+clean-mags xs h = every-map _ _ sample-mag xs (clean-all xs h)

@@ -16,9 +16,8 @@ use lib.Ieee.Bits.{is-true}
 use lib.Ieee.Positive.{positive, above-of-le, le→cross}
 use Rattle.lists.specs.Every.{Every, every-map}
 use Rattle.ranges.specs.Ranges.{within, limit, inDomain, cleanOf}
-use Rattle.ranges.proofs.Laws.{within-all, clean-all}
-use Rattle.float.proofs.Words.{T-of}
-use Rattle.float.proofs.Bounds.{Mag, mag-of-range, le-of-mag}
+use Rattle.ranges.proofs.Laws.{within-all, clean-mags}
+use Rattle.float.proofs.Bounds.{Mag, le-of-mag}
 use Rattle.vad_config.specs.Domain.{zero32, rateIn, startIn, receivedIn}
 use Rattle.vad_config.specs.Settings.{firstOf, framingRefusals, levelRefusals, limitRefusals, refusalOf, lengthsOf, frameOf, hopOf, warmupOf, paddingOf}
 use Rattle.vad_config.specs.declared.VadConfig.{VadConfig}
@@ -41,7 +40,7 @@ use Rattle.vad_state.specs.declared.VadDetector.{VadDetector}
 use Rattle.vad_call.specs.declared.Detected.{Detected}
 use Rattle.vad_call.specs.declared.Refusal.{Refusal}
 use Rattle.vad_detector.specs.declared.Opened.{Opened}
-use Rattle.vad_state.proofs.Parts.{ActiveIn, HeldIn, Sound, whole, both}
+use Rattle.vad_state.proofs.Parts.{ActiveIn, HeldIn, Sound, whole}
 use Rattle.vad_state.proofs.Fills.{filled-take}
 use Rattle.vad_detector.proofs.Running.{Holding, Running, handed-parts, ranTo, ran-running}
 
@@ -243,17 +242,10 @@ pub record Clean (d : VadDetector) (xs : List Float) : Type 0 where
 abbrev pub Ends : (premise : Type 0) → ℕ → VadDetector → VadDetector → VadDetector → Type 0
 Ends premise number given new after = (premise × (number ≡ 0) × (after ≡ new)) ⊎ ((number ≡ 0 → ⊥) × (after ≡ given))
 
-sample-mag : (x : Float) → inDomain x ≡ true → Mag x 65536 1
-unfolding inDomain ofBits
-sample-mag x h = let t = both (le (neg limit) x) (le x limit) h in mag-of-range x limit 65536 1 (refl, refl) (T-of (t .0)) (T-of (t .1))
-
-clean-samples : (xs : List Float) → length xs ≤ cleanOf xs → Every (λ x. Mag x 65536 1) xs
-clean-samples xs h = every-map _ _ sample-mag xs (clean-all xs h)
-
 check-clean : (d : VadDetector) (xs : List Float) → checkOf d xs .number ≡ 0 → Clean d xs
 unfolding checkOf receivedIn
 check-clean d xs =
-    go (soundOf d) (ltb 1024 (length xs)) (ltb (cleanOf xs) (length xs)) (leb (d .«processed_samples» + length xs) (2 ^ 40)) refl (ltb-false 1024 (length xs)) (λ e. clean-samples xs (ltb-false (cleanOf xs) (length xs) e)) (leb-true (d .«processed_samples» + length xs) (2 ^ 40))
+    go (soundOf d) (ltb 1024 (length xs)) (ltb (cleanOf xs) (length xs)) (leb (d .«processed_samples» + length xs) (2 ^ 40)) refl (ltb-false 1024 (length xs)) (λ e. clean-mags xs (ltb-false (cleanOf xs) (length xs) e)) (leb-true (d .«processed_samples» + length xs) (2 ^ 40))
   where
     go : (s l b n : Bool) → soundOf d ≡ s → (l ≡ false → length xs ≤ 1024) → (b ≡ false → Every (λ x. Mag x 65536 1) xs) → (n ≡ true → d .«processed_samples» + length xs ≤ 2 ^ 40)
         → cond {A = Refusal} (not s) (record { number = 19; carries = 0 })

@@ -9,6 +9,7 @@ use lib.Dec.{leb, ltb, eqb}
 use lib.ListN.{take}
 use lib.Ieee.{Float, lt, neg}
 use lib.Ieee.Scale.{finite}
+use Rattle.ranges.proofs.Laws.{both}
 use Rattle.ranges.specs.Ranges.{within, allWithin, inDomain}
 use Rattle.vad_config.specs.Domain.{zero32, receivedIn}
 use Rattle.vad_config.specs.Settings.{refusalOf, lengthsOf}
@@ -62,11 +63,6 @@ pub record Sound (d : VadDetector) : Type 0 where
   pub rows : d .track .«rows_reported» ≤ d .«processed_samples»
   pub held : d .warming ≡ true → HeldIn d
   pub active : ActiveIn (d .rules .config .«hangover_frames») (d .«processed_samples») (d .track .«last_segment_end») (d .track .«active_segment»)
-
--- ---- a test that held, in its two parts
-pub both : (a b : Bool) → (a && b) ≡ true → (a ≡ true) × (b ≡ true)
-both true b h = (refl, h)
-both false b h = absurd (true≢false (sym h))
 
 -- ---- each test, in its parts and whole
 made : ℕ → ℕ → ℕ → ℕ → Lengths

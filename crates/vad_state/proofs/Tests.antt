@@ -10,12 +10,13 @@ use borrow.Author.Tests.{eq-eqb, ne-eqb}
 use lib.Dec.{eqb}
 use lib.ListN.{length, take, drop, length-take}
 use lib.Ieee.{Float}
+use Rattle.ranges.proofs.Laws.{both}
 use Rattle.vad_config.specs.Settings.{refusalOf, lengthsOf}
 use Rattle.vad_config.proofs.Laws.{lengths-are, frame-high, hop-high, warmup-high}
 use Rattle.vad_segments.specs.declared.Rules.{Rules}
 use Rattle.vad_state.specs.State.{handedIn, settingsSound, carrySound, trackSound, heldSound, activeSound, soundOf}
 use Rattle.vad_state.specs.declared.VadDetector.{VadDetector}
-use Rattle.vad_state.proofs.Parts.{both, settings-parts}
+use Rattle.vad_state.proofs.Parts.{settings-parts}
 
 -- 'carry start plus carry differs from samples received'
 pub start-past : (start n received : ℕ) → received < start → eqb (start + n) received ≡ false
