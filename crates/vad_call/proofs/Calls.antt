@@ -32,16 +32,19 @@ use Rattle.vad_state.proofs.Fills.{from-start, take-again, put-back, put-rest, 
 use Rattle.vad_state.proofs.Parts.{Sound, frame-high, hop-low, hop-high, warmup-high}
 
 -- ---- gather
+pub values-count : (d : VadDetector) (xs : List Float) → length (carriedOf d) ≡ d .«carry_len» → length (valuesOf d xs) ≡ d .«carry_len» + length xs
+unfolding valuesOf
+values-count d xs h =
+    let a = coefficientOf (d .rules .config .«has_pre_emphasis») (d .rules .config .«pre_emphasis») in
+    omega (arith, length-append (carriedOf d) (emphasized a (d .«pre_emphasis_prev») xs), h, emphasized-length a (d .«pre_emphasis_prev») xs)
+
 module _ (d : VadDetector) (xs : List Float) (long : length (d .carry) ≡ 2048) (short : d .«carry_len» ≤ 2048) where
   carried-length : length (carriedOf d) ≡ d .«carry_len»
   unfolding carriedOf
   carried-length = length-take-le (d .«carry_len») (d .carry) (omega arith)
 
   pub values-length : length (valuesOf d xs) ≡ d .«carry_len» + length xs
-  unfolding valuesOf
-  values-length =
-      let a = coefficientOf (d .rules .config .«has_pre_emphasis») (d .rules .config .«pre_emphasis») in
-      omega (arith, length-append (carriedOf d) (emphasized a (d .«pre_emphasis_prev») xs), carried-length, emphasized-length a (d .«pre_emphasis_prev») xs)
+  values-length = values-count d xs carried-length
 
   -- the carry put first, then the block's values
   pub gathered : (to whole last : List Float) (coeff : Float) → d .«carry_len» + length xs ≤ length to

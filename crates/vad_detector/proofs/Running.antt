@@ -25,7 +25,7 @@ use Rattle.vad_config.proofs.Laws.{Accepted, accepted, lengths-are, frame-high,
 use Rattle.vad_config.proofs.Bounds.{unit-mag}
 use Rattle.vad_frames.specs.Emphasis.{coefficientOf, emphasized}
 use Rattle.vad_frames.specs.Grid.{taken, framesOf, energiesOf, framedOf, carryOf, consumedOf}
-use Rattle.vad_frames.proofs.Laws.{emphasized-length, frame-starts, frames-within, frames-le, energies-length, consumed-le, carry-flushed, whole-consumed, carry-short}
+use Rattle.vad_frames.proofs.Laws.{frame-starts, frames-within, frames-le, energies-length, consumed-le, carry-flushed, whole-consumed, carry-short}
 use Rattle.vad_frames.proofs.Bounds.{emphasized-mag, last-mag, energies-low, energies-fit}
 use Rattle.vad_segments.specs.Loudness.{seedOf}
 use Rattle.vad_segments.specs.Judging.{flooredTo, framesAt, callTrack, classifiedOf, endedOf, trackAfter}
@@ -37,6 +37,7 @@ use Rattle.vad_segments.proofs.Ordered.{TrackOrdered, either, later-limit, call
 use Rattle.vad_segments.proofs.Counts.{ActiveCounted, countIn, call-counted, call-count-grows}
 use Rattle.vad_segments.proofs.Floor.{FloorRules, FloorHeld, EnergyIn, ActiveHeld, floor-kept-call, energy-kept-call, seed-held}
 use Rattle.vad_state.specs.State.{windowOf, carriedOf, heldOf, handedIn, half32}
+use Rattle.vad_call.proofs.Calls.{values-count}
 use Rattle.vad_call.specs.Calls.{valuesOf, waitingOf, measuredFrom, measuredOf, consumedFrom, carryAfter, progressOf, holdingWith, holdingOf, keptOf, dueOf, seededOf, gridStart, framesDue, verdictOf, advancedOf}
 use Rattle.vad_state.specs.declared.VadDetector.{VadDetector}
 use Rattle.vad_call.specs.declared.Progress.{Progress}
@@ -158,11 +159,7 @@ module _ (finish : Bool) (d : VadDetector) (xs : List Float) (r : Running d) whe
   received = d .«processed_samples» + length xs
 
   pub values-length : length (valuesOf d xs) ≡ d .«carry_len» + length xs
-  unfolding valuesOf
-  values-length =
-      let a = coefficientOf (d .rules .config .«has_pre_emphasis») (d .rules .config .«pre_emphasis») in
-      let p = d .«pre_emphasis_prev» in
-      omega (arith, length-append (carriedOf d) (emphasized a p xs), emphasized-length a p xs, r .carry-is)
+  values-length = values-count d xs (r .carry-is)
 
   -- from the carry's start they reach as far as the sound received
   pub values-reach : d .«carry_start» + length (valuesOf d xs) ≡ d .«processed_samples» + length xs
