@@ -1,0 +1,312 @@
+//! What `crates/vad_replay` replays: some hundred calls, and what the original answered. The original is run again here, and the program's two files
+//! are held to it; `REPLAY_WRITE=1 cargo test --manifest-path oracle/Cargo.toml --test replay` makes them anew.
+
+use std::fmt::Write as _;
+use std::path::PathBuf;
+
+use speech_prep::probe::{Answer, Probe};
+use speech_prep::{AudioDuration, AudioTimestamp, VadConfig};
+
+/// How many numbers a row has, and how many a call of the list lends at most.
+const ROW: usize = 7;
+const LENT: usize = 448;
+
+/// The calls as the program reads them, and the lines that it must print.
+#[derive(Default)]
+struct List {
+    input: Vec<u8>,
+    output: String,
+    calls: usize,
+    rows: usize,
+    samples: usize,
+}
+
+impl List {
+    fn word(&mut self, word: u32) {
+        self.input.extend(word.to_le_bytes());
+    }
+
+    fn long(&mut self, long: u64) {
+        self.input.extend(long.to_le_bytes());
+    }
+
+    fn numbers(&mut self, numbers: &[f32]) {
+        for number in numbers {
+            self.word(number.to_bits());
+        }
+    }
+
+    fn opening(&mut self, config: &VadConfig, window: &[f32], rise: f32, refusal: u32) {
+        // The program begins with an opening, so the first has no number of its own.
+        if !self.input.is_empty() {
+            self.word(1);
+        }
+        self.word(config.sample_rate);
+        self.long(config.frame_duration.as_nanos() as u64);
+        self.numbers(&[config.frame_overlap]);
+        self.word(u32::from(config.pre_emphasis.is_some()));
+        self.numbers(&[
+            config.pre_emphasis.unwrap_or(0.0),
+            config.activation_ratio,
+            config.release_ratio,
+            config.min_speech_energy,
+            config.noise_smoothing,
+            config.energy_floor,
+        ]);
+        self.long(config.hangover_frames as u64);
+        self.long(config.speech_padding.as_nanos() as u64);
+        self.long(config.min_speech_frames as u64);
+        self.long(config.stream_start_time.nanos());
+        self.numbers(&[rise]);
+        self.word(window.len() as u32);
+        self.numbers(window);
+        writeln!(self.output, "opened {refusal}").unwrap();
+        self.calls += 1;
+    }
+
+    /// A detect or, with no block, a flush, with that many numbers lent for rows.
+    fn call(&mut self, block: Option<&[f32]>, room: usize) {
+        self.calls += 1;
+        match block {
+            Some(block) => {
+                self.word(2);
+                self.word(room as u32);
+                self.word(block.len() as u32);
+                self.numbers(block);
+                self.samples += block.len();
+            }
+            None => {
+                self.word(3);
+                self.word(room as u32);
+            }
+        }
+    }
+
+    fn refused(&mut self, block: Option<&[f32]>, room: usize, number: u32, carries: usize) {
+        self.call(block, room);
+        writeln!(self.output, "refused {number} {carries}").unwrap();
+    }
+
+    /// A call that is accepted. Where the original reports rows, the port is first asked with a number too few for them.
+    fn heard(&mut self, block: Option<&[f32]>, probe: &Probe, answer: &Answer) {
+        let rows = answer.segments.len();
+        if rows > 0 {
+            self.refused(block, rows * ROW - 1, 18, rows);
+        }
+        self.call(block, if rows == 0 { 0 } else { LENT.min(rows * ROW) });
+        let open = probe
+            .open_start()
+            .map_or("-".into(), |start| start.to_string());
+        writeln!(
+            self.output,
+            "heard {} {} {} {:08x} {} {} {open}",
+            answer.stats.frames_processed,
+            answer.stats.speech_frames,
+            answer.stats.silence_frames,
+            answer.noise_floor.to_bits(),
+            probe.undecided_from(),
+            probe.analyzed_until(),
+        )
+        .unwrap();
+        for row in &answer.segments {
+            writeln!(
+                self.output,
+                "row {} {} {} {:08x}",
+                row.start_time.nanos(),
+                row.end_time.nanos(),
+                row.frame_count,
+                row.avg_energy.to_bits(),
+            )
+            .unwrap();
+        }
+        self.rows += rows;
+    }
+
+    fn detect(&mut self, probe: &Probe, block: &[f32]) {
+        let answer = probe.detect(block).unwrap();
+        self.heard(Some(block), probe, &answer);
+    }
+
+    fn flush(&mut self, probe: &Probe) {
+        let answer = probe.flush().unwrap();
+        self.heard(None, probe, &answer);
+    }
+
+    fn reset(&mut self, probe: &mut Probe, start: u64) {
+        probe.reset(AudioTimestamp::from_nanos(start));
+        self.calls += 1;
+        self.word(4);
+        self.long(start);
+        writeln!(self.output, "reset 0").unwrap();
+    }
+
+    fn reset_refused(&mut self, start: u64, number: u32) {
+        self.calls += 1;
+        self.word(4);
+        self.long(start);
+        writeln!(self.output, "reset {number}").unwrap();
+    }
+}
+
+/// Numbers in [-1, 1] that follow no pattern.
+fn noise(n: usize) -> f32 {
+    let word = (n as u32 + 1).wrapping_mul(2_654_435_761) ^ 0x5bd1_e995;
+    (word.wrapping_mul(word | 1) >> 8) as f32 / 8_388_608.0 - 1.0
+}
+
+/// A quiet room with bursts of a tenth of a second to a half, and pauses between them.
+fn sound(rate: usize, n: usize) -> f32 {
+    let part = n * 20 / rate;
+    let level = match part % 16 {
+        4 | 5 | 6 | 9 | 10 => 0.3,
+        7 => 0.05,
+        13 => 0.8,
+        _ => 0.004,
+    };
+    level * noise(n)
+}
+
+/// The window, by the original's expression.
+fn hann(length: usize) -> Vec<f32> {
+    if length == 1 {
+        return vec![1.0];
+    }
+    let angle = |n: usize| 2.0 * std::f32::consts::PI * n as f32 / (length - 1) as f32;
+    (0..length)
+        .map(|n| 0.5f32.mul_add(-angle(n).cos(), 0.5))
+        .collect()
+}
+
+/// The rise weight, by the original's expression.
+fn rise(config: &VadConfig) -> f32 {
+    let hop = config.hop_length_samples().unwrap() as f64 / f64::from(config.sample_rate);
+    (-hop / 5.0).exp() as f32
+}
+
+fn open(list: &mut List, config: VadConfig) -> Probe {
+    let window = hann(config.frame_length_samples().unwrap());
+    list.opening(&config, &window, rise(&config), 0);
+    Probe::open(config).unwrap()
+}
+
+/// The settings of the runs, at 8 kHz so that the list stays short.
+fn settings() -> VadConfig {
+    VadConfig {
+        sample_rate: 8_000,
+        hangover_frames: 3,
+        ..VadConfig::default()
+    }
+}
+
+/// Blocks of these lengths, over and over.
+fn blocks(list: &mut List, probe: &Probe, from: usize, to: usize, lengths: &[usize]) {
+    let (mut at, mut turn) = (from, 0);
+    while at < to {
+        let end = to.min(at + lengths[turn % lengths.len()]);
+        let block: Vec<f32> = (at..end).map(|n| sound(8_000, n)).collect();
+        list.detect(probe, &block);
+        at = end;
+        turn += 1;
+    }
+}
+
+fn runs() -> List {
+    let mut list = List::default();
+
+    // The defaults, with pre-emphasis; an empty block, the longest, a flush, a new grid after it, and refused calls.
+    let mut probe = open(&mut list, settings());
+    blocks(&mut list, &probe, 0, 4_800, &[160, 0, 1, 79, 1_024]);
+    list.refused(Some(&[0.0; 1_025]), LENT, 15, 0);
+    let mut bad = [0.25; 32];
+    bad[7] = f32::NAN;
+    bad[9] = 65_537.0;
+    list.refused(Some(&bad), LENT, 16, 7);
+    bad[7] = -65_536.0;
+    list.refused(Some(&bad), LENT, 16, 9);
+    list.flush(&probe);
+    list.flush(&probe);
+    blocks(&mut list, &probe, 4_800, 9_000, &[333]);
+    list.flush(&probe);
+    list.reset_refused(1 << 63, 13);
+    list.reset(&mut probe, 1_000_000_000_000_000_007);
+    blocks(&mut list, &probe, 700, 5_000, &[500]);
+    list.flush(&probe);
+
+    // Hops of 8 samples, so a warm-up of 300 frames; the block that completes it brings many frames more.
+    let short = VadConfig {
+        frame_duration: AudioDuration::from_millis(2),
+        pre_emphasis: None,
+        min_speech_frames: 1,
+        ..settings()
+    };
+    let probe = open(&mut list, short.clone());
+    blocks(&mut list, &probe, 0, 4_100, &[1_000]);
+    blocks(&mut list, &probe, 4_100, 6_000, &[13, 640]);
+    list.flush(&probe);
+
+    // A flush in the warm-up, with frames held and a short one; then one with no frame at all.
+    let mut probe = open(&mut list, short);
+    blocks(&mut list, &probe, 1_500, 2_503, &[100]);
+    list.flush(&probe);
+    blocks(&mut list, &probe, 2_503, 3_600, &[200]);
+    list.flush(&probe);
+    list.reset(&mut probe, 5);
+    list.flush(&probe);
+    blocks(&mut list, &probe, 1_800, 3_000, &[97]);
+    list.flush(&probe);
+
+    // Frames of a quarter of a second, three quarters over the next, and no hangover.
+    let long = VadConfig {
+        frame_duration: AudioDuration::from_millis(250),
+        frame_overlap: 0.75,
+        activation_ratio: 1.6,
+        release_ratio: 1.2,
+        noise_smoothing: 0.5,
+        hangover_frames: 0,
+        min_speech_frames: 1,
+        ..settings()
+    };
+    let probe = open(&mut list, long);
+    blocks(&mut list, &probe, 0, 9_000, &[1_024, 5]);
+    list.flush(&probe);
+
+    // Settings that are refused, and calls on the state that such an opening leaves.
+    let refused = VadConfig {
+        frame_duration: AudioDuration::from_millis(300),
+        ..settings()
+    };
+    list.opening(&refused, &[], 0.75, 11);
+    list.refused(Some(&[]), 0, 19, 0);
+    list.refused(None, 0, 19, 0);
+    list.reset_refused(0, 19);
+    list.opening(&settings(), &[0.5; 159], 0.75, 14);
+    list.word(0);
+    list
+}
+
+fn path(name: &str) -> PathBuf {
+    PathBuf::from(env!("CARGO_MANIFEST_DIR"))
+        .join("../crates/vad_replay")
+        .join(name)
+}
+
+#[test]
+fn the_list_is_the_originals() {
+    let list = runs();
+    println!(
+        "{} calls, {} samples, {} rows",
+        list.calls, list.samples, list.rows
+    );
+    if std::env::var_os("REPLAY_WRITE").is_some() {
+        std::fs::write(path("stdin"), &list.input).unwrap();
+        std::fs::write(path("stdout"), &list.output).unwrap();
+    }
+    assert!(
+        std::fs::read(path("stdin")).unwrap() == list.input,
+        "crates/vad_replay/stdin"
+    );
+    assert_eq!(
+        std::fs::read_to_string(path("stdout")).unwrap(),
+        list.output
+    );
+}
