@@ -340,16 +340,12 @@ module _ (finish : Bool) (d : VadDetector) (s : Sound d) (xs : List Float) (most
           ∙ put-back to (measuredFrom finish d (take (d .«carry_len» + length xs - 0) values)) frames (sym f) (omega arith)
           ∙ ap (measuredFrom finish d) values-back
 
-      pub ran-is : (last : Float) → last ≡ lastOf (d .«pre_emphasis_prev») xs → (room : ℕ) (r : Detected)
-          → r
-          ≡ concludedOf finish d
-          (record { «processed_samples» = d .«processed_samples» + length xs; «carry_start» = d .«carry_start» + consumed; «pre_emphasis_prev» = last })
-          (take (d .«carry_len» + length xs - consumed) (drop consumed values))
-          (take (frames - 0) energies)
-          room
+      pub ran-is : (last : Float) → last ≡ lastOf (d .«pre_emphasis_prev») xs → (room : ℕ) (r : Detected) (p : Progress)
+          → r ≡ concludedOf finish d p (take (d .«carry_len» + length xs - consumed) (drop consumed values)) (take (frames - 0) energies) room
+          → p ≡ record { «processed_samples» = d .«processed_samples» + length xs; «carry_start» = d .«carry_start» + consumed; «pre_emphasis_prev» = last }
           → r ≡ ranOf finish d xs room
       unfolding ranOf progressOf
-      ran-is last l room r h = h ∙ rw (l, carry-back, energies-back, consumed-is)
+      ran-is last l room r p h far = h ∙ rw (far, l, carry-back, energies-back, consumed-is)
 
       pub written-is : (out last : List ℕ) → last ≡ reportedIn (rowsDue finish d (d .«processed_samples» + length xs) (dueOf finish d (take (frames - 0) energies))) out → last ≡ writtenOf finish d xs out
       unfolding writtenOf rowsOfCall

@@ -4,7 +4,6 @@ use mathlib.Core.Bool.{Bool, true, false, not, _&&_, _||_, true≢false}
 use mathlib.Core.List.{List}
 use Prim.Native.Nat.{ℕ, _+_, _-_, _*_, _≤_, _<_}
 use native.Mathlib.Nat.{le-trans, mul-le-mul, min-le-left}
-use native.Mathlib.Decide.{decLt}
 use native.Mathlib.Omega.{arith}
 use borrow.Author.Tests.{eq-eqb, ne-eqb}
 use lib.Dec.{eqb}
@@ -34,10 +33,6 @@ first-part n xs = let e : n - 0 ≡ n = omega arith in rw e
 
 pub first-short : (n : ℕ) (xs : List Float) → n ≤ 2048 → length (take (n - 0) xs) ≤ 2048
 first-short n xs h = let e = length-take (n - 0) xs in let m = min-le-left (n - 0) (length xs) in omega arith
-
--- a count that is not 0
-pub not-none : (n : ℕ) → (n ≡ 0 → ⊥) → 0 < n
-not-none n h = elim (decLt 0 n) [ yes l ↦ l | no g ↦ absurd (h (omega arith)) ]
 
 -- ---- what the tests before a slice or a product give
 pub held-fits : (held hop warmup : ℕ) → held < warmup → warmup ≤ 300 → hop ≤ 2048 → held * hop ≤ 614400

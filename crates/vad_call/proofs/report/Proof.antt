@@ -1,6 +1,7 @@
-use mathlib.Core.Path.{sym, _∙_}
+use mathlib.Core.Path.{_≡_}
 use native.Mathlib.Omega.{arith}
 use Prim.Native.Nat.{_≤_, _^_}
+use lib.ListN.{length}
 use Rattle.vad_segments.specs.Rooms.{Within}
 use Rattle.vad_call.specs.Calls.{rowsDue}
 use Rattle.vad_state.proofs.Parts.{parts, lengths-within, track-within}
@@ -12,7 +13,9 @@ use Rattle.vad_call.proofs.report.Tie as tie
 returns : tie.Need-returns
 returns c =
     let s = c .before .before .before in
-    rows-none (rowsDue (s .args .finish) (s .args .detector) (s .args .received) (s .args .due .now)) (s .args .rows .now) (sym (c .if1 .taken) ∙ s .pre .1 .1 .0)
+    let due = rowsDue (s .args .finish) (s .args .detector) (s .args .received) (s .args .due .now) in
+    let none : 0 ≡ length due = omega (arith, c .if1 .taken, s .pre .1 .1 .0) in
+    rows-none due (s .args .rows .now) none
 
 seeded-requires : tie.Need-seeded-requires
 seeded-requires c κs = search needs

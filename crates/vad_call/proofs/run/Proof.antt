@@ -157,7 +157,7 @@ returns c =
     let g = m .before .before .before .before .before .before in
     let s = g .before .before .before .before in
     let end = c .before .before .conclude in (
-      ran-is (s .args .finish) (s .args .detector) (sound s) (s .args .samples .now) (s .pre .1 .0) (window-long s) (carry-long s) blank (g .gather .last .1 .1 .0) (length-replicate 3072 zero32) (g .gather .ensures .1) (m .measure .result .consumed) (m .measure .ensures .1 .0) none (m .measure .last .1 .1 .1 .0) (length-replicate 1024 zero32) (m .measure .ensures .1 .1) (m .measure .result .frames) (m .measure .ensures .0) (g .gather .result) (g .gather .ensures .0) (length (s .args .rows .now)) (end .result) (end .ensures .0),
+      ran-is (s .args .finish) (s .args .detector) (sound s) (s .args .samples .now) (s .pre .1 .0) (window-long s) (carry-long s) blank (g .gather .last .1 .1 .0) (length-replicate 3072 zero32) (g .gather .ensures .1) (m .measure .result .consumed) (m .measure .ensures .1 .0) none (m .measure .last .1 .1 .1 .0) (length-replicate 1024 zero32) (m .measure .ensures .1 .1) (m .measure .result .frames) (m .measure .ensures .0) (g .gather .result) (g .gather .ensures .0) (length (s .args .rows .now)) (end .result) _ (end .ensures .0) refl,
       written-is (s .args .finish) (s .args .detector) (sound s) (s .args .samples .now) (s .pre .1 .0) (window-long s) (carry-long s) blank (g .gather .last .1 .1 .0) (length-replicate 3072 zero32) (g .gather .ensures .1) (m .measure .result .consumed) (m .measure .ensures .1 .0) none (m .measure .last .1 .1 .1 .0) (length-replicate 1024 zero32) (m .measure .ensures .1 .1) (m .measure .result .frames) (m .measure .ensures .0) (s .args .rows .now) (end .last .1 .1 .1 .1 .1 .0) (end .ensures .1),
     )
 

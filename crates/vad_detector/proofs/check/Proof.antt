@@ -18,7 +18,9 @@ sound : (k : tie.Else1) → soundOf (k .before .before .before .args .detector) 
 sound k = sym (k .before .sound .ensures) ∙ not-false _ (k .if1 .left)
 
 short : (k : tie.Else2) → ltb 1024 (length (k .before .before .before .before .args .samples .now)) ≡ false
-short k = le-ltb _ _ (k .if2 .left)
+short k =
+    let few : length (k .before .before .before .before .args .samples .now) ≤ 1024 = omega (arith, k .if2 .left) in
+    le-ltb _ _ few
 
 clean : (k : tie.Else3) → let xs = k .before .before .before .before .before .before .args .samples .now in ltb (cleanOf xs) (length xs) ≡ false
 clean k =
@@ -38,7 +40,8 @@ returns-2 : tie.Need-returns-2
 unfolding checkOf
 returns-2 c =
     let s = c .before .before .before .before .args in
-    simp (sound (c .before), lt-ltb 1024 (length (s .samples .now)) (c .if2 .taken))
+    let many : 1024 < length (s .samples .now) = omega (arith, c .if2 .taken) in
+    simp (sound (c .before), lt-ltb 1024 (length (s .samples .now)) many)
 
 clean-requires : tie.Need-clean-requires
 clean-requires c κs = search needs
@@ -64,14 +67,16 @@ unfolding checkOf receivedIn
 returns-4 c =
     let k = c .before .before in
     let s = k .before .before .before .before .before .before .args in
-    simp (sound (k .before .before .before), short (k .before .before), clean k, lt-leb (s .detector .«processed_samples» + length (s .samples .now)) (2 ^ 40) (c .if4 .taken))
+    let past : 2 ^ 40 < s .detector .«processed_samples» + length (s .samples .now) = omega (arith, c .if4 .taken) in
+    simp (sound (k .before .before .before), short (k .before .before), clean k, lt-leb (s .detector .«processed_samples» + length (s .samples .now)) (2 ^ 40) past)
 
 returns-5 : tie.Need-returns-5
 unfolding checkOf receivedIn
 returns-5 c =
     let k = c .before .before in
     let s = k .before .before .before .before .before .before .args in
-    simp (sound (k .before .before .before), short (k .before .before), clean k, le-leb (s .detector .«processed_samples» + length (s .samples .now)) (2 ^ 40) (c .if4 .left))
+    let within : s .detector .«processed_samples» + length (s .samples .now) ≤ 2 ^ 40 = omega (arith, c .if4 .left) in
+    simp (sound (k .before .before .before), short (k .before .before), clean k, le-leb (s .detector .«processed_samples» + length (s .samples .now)) (2 ^ 40) within)
 
 pub check-spec : {M : Type 1} → statement M
 check-spec = tie.close (tie.spec sound-requires returns returns-2 clean-requires returns-3 add-if4 returns-4 returns-5)

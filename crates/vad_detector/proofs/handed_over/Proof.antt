@@ -1,3 +1,5 @@
+use mathlib.Core.Path.{_≡_}
+use native.Mathlib.Omega.{arith}
 use borrow.Author.Tests.{eq-eqb, ne-eqb}
 use lib.ListN.{length}
 use Rattle.vad_detector.specs.Opening.{handedOver}
@@ -9,7 +11,7 @@ returns : tie.Need-returns
 unfolding handedOver
 returns c =
     let s = c .before .before .args in
-    simp (ne-eqb (length (s .window .now)) (s .frame-length) (c .if1 .taken))
+    simp (ne-eqb (length (s .window .now)) (s .frame-length) (λ e. omega (arith, e, c .if1 .taken)))
 
 handed-in-requires : tie.Need-handed-in-requires
 handed-in-requires c κs = search needs
@@ -18,7 +20,8 @@ returns-2 : tie.Need-returns-2
 unfolding handedOver
 returns-2 c =
     let s = c .before .before .before .args in
-    simp (eq-eqb (length (s .window .now)) (s .frame-length) (c .before .if1 .left)) (c .handed-in .ensures)
+    let same : length (s .window .now) ≡ s .frame-length = omega (arith, c .before .if1 .left) in
+    simp (eq-eqb (length (s .window .now)) (s .frame-length) same) (c .handed-in .ensures)
 
 pub handed-over-spec : {M : Type 1} → statement M
 handed-over-spec = tie.close (tie.spec returns handed-in-requires returns-2)

@@ -1,6 +1,7 @@
 use mathlib.Core.Path.{_≡_, sym, _∙_}
-use mathlib.Core.Bool.{true}
+use mathlib.Core.Bool.{true, false}
 use borrow.Author.Tests.{not-true, not-false}
+use Rattle.vad_config.specs.Domain.{startIn}
 use Rattle.vad_state.specs.State.{soundOf}
 use Rattle.vad_detector.specs.Opening.{resetOf}
 use borrow.Author.Needs.{needs}
@@ -22,7 +23,10 @@ start-allowed-requires c κs = search needs
 
 returns-2 : tie.Need-returns-2
 unfolding resetOf
-returns-2 c = simp (taken (c .before .before), sym (c .before .start-allowed .ensures) ∙ not-true _ (c .if2 .taken))
+returns-2 c =
+    let k = c .before .before in
+    let late : startIn (k .before .before .args .stream-start-time) ≡ false = sym (c .before .start-allowed .ensures) ∙ not-true _ (c .if2 .taken) in
+    simp (taken k, late)
 
 restarted-requires : tie.Need-restarted-requires
 restarted-requires c κs = taken (c .before .before)
@@ -30,8 +34,9 @@ restarted-requires c κs = taken (c .before .before)
 returns-3 : tie.Need-returns-3
 unfolding resetOf
 returns-3 c =
-    let k = c .before in
-    simp (taken (k .before .before), sym (k .before .start-allowed .ensures) ∙ not-false _ (k .if2 .left), c .restarted .ensures)
+    let k = c .before .before .before in
+    let early : startIn (k .before .before .args .stream-start-time) ≡ true = sym (c .before .before .start-allowed .ensures) ∙ not-false _ (c .before .if2 .left) in
+    simp (taken k, early, c .restarted .ensures)
 
 pub reset-spec : {M : Type 1} → statement M
 reset-spec = tie.close (tie.spec sound-requires returns start-allowed-requires returns-2 restarted-requires returns-3)

@@ -1,6 +1,7 @@
 use mathlib.Core.Path.{_≡_, sym, ap, _∙_}
 use mathlib.Core.Bool.{true}
-use Prim.Native.Nat.{_+_}
+use Prim.Native.Nat.{_+_, _≤_, _<_}
+use native.Mathlib.Omega.{arith}
 use borrow.Author.Tests.{not-true, not-false, lt-ltb, le-ltb}
 use lib.Dec.{ltb, eqb}
 use lib.Ieee.{neg}
@@ -12,7 +13,10 @@ use Rattle.vad_state.proofs.carry_sound.Statement.{statement}
 use Rattle.vad_state.proofs.carry_sound.Tie as tie
 
 short : (k : tie.Else1) → let s = k .before .before .args in ltb (s .carry-len) (s .frame-length) ≡ true
-short k = lt-ltb _ _ (k .if1 .left)
+short k =
+    let s = k .before .before .args in
+    let under : s .carry-len < s .frame-length = omega (arith, k .if1 .left) in
+    lt-ltb _ _ under
 
 joined : (k : tie.Else3) → let s = k .before .before .before .before .args in eqb (s .carry-start + s .carry-len) (s .received) ≡ true
 joined k = start-joins _ _ _ (k .before .if2 .left) (k .if3 .left)
@@ -21,7 +25,8 @@ returns : tie.Need-returns
 unfolding carrySound
 returns c =
     let s = c .before .before .args in
-    simp (le-ltb (s .carry-len) (s .frame-length) (c .if1 .taken))
+    let over : s .frame-length ≤ s .carry-len = omega (arith, c .if1 .taken) in
+    simp (le-ltb (s .carry-len) (s .frame-length) over)
 
 returns-2 : tie.Need-returns-2
 unfolding carrySound

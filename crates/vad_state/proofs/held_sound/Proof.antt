@@ -1,6 +1,6 @@
 use mathlib.Core.Path.{_≡_, sym, ap, _∙_}
 use mathlib.Core.Bool.{true}
-use Prim.Native.Nat.{_*_, _<_}
+use Prim.Native.Nat.{_*_, _≤_, _<_}
 use native.Mathlib.Omega.{arith}
 use borrow.Author.Tests.{not-true, not-false, lt-ltb, le-ltb, eq-eqb, ne-eqb}
 use lib.Dec.{ltb, eqb}
@@ -13,7 +13,10 @@ use Rattle.vad_state.proofs.held_sound.Statement.{statement}
 use Rattle.vad_state.proofs.held_sound.Tie as tie
 
 few : (k : tie.Else1) → let s = k .before .before .before .args in ltb (s .held) (s .lengths .«warmup_frames») ≡ true
-few k = lt-ltb _ _ (k .if1 .left)
+few k =
+    let s = k .before .before .before .args in
+    let under : s .held < s .lengths .«warmup_frames» = omega (arith, k .if1 .left) in
+    lt-ltb _ _ under
 
 placed : (k : tie.Else2) → let s = k .before .before .before .before .before .args in eqb (s .held * s .lengths .«hop_length») (s .carry-start) ≡ true
 placed k = eq-eqb _ _ (k .if2 .left)
@@ -22,12 +25,13 @@ returns : tie.Need-returns
 unfolding heldSound
 returns c =
     let s = c .before .before .before .args in
-    simp (le-ltb (s .held) (s .lengths .«warmup_frames») (c .if1 .taken))
+    let reached : s .lengths .«warmup_frames» ≤ s .held = omega (arith, c .if1 .taken) in
+    simp (le-ltb (s .held) (s .lengths .«warmup_frames») reached)
 
 mul-if2 : tie.Need-mul-if2
 mul-if2 c =
     let s = c .before .before .before .before in
-    let few : s .args .held < s .args .lengths .«warmup_frames» = c .before .if1 .left in
+    let few : s .args .held < s .args .lengths .«warmup_frames» = omega (arith, c .before .if1 .left) in
     let small = held-fits (s .args .held) (s .args .lengths .«hop_length») (s .args .lengths .«warmup_frames») few (s .pre .0) (s .pre .1) in
     record { fits = omega (arith, small) }
 

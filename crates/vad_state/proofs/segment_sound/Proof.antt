@@ -1,13 +1,12 @@
 use mathlib.Core.Path.{_≡_, sym, _∙_}
 use mathlib.Core.Bool.{true}
-use Prim.Native.Nat.{_*_}
-use native.Mathlib.Nat.{le-of-eq}
+use Prim.Native.Nat.{_*_, _≤_, _<_}
+use native.Mathlib.Omega.{arith}
 use borrow.Author.Tests.{not-true, not-false, lt-ltb, le-ltb, le-leb, lt-leb}
 use lib.Dec.{ltb, leb}
 use Rattle.ranges.specs.Ranges.{within}
 use Rattle.vad_config.specs.Domain.{zero32}
 use Rattle.vad_state.specs.State.{total32, segmentSound}
-use Rattle.vad_state.proofs.Tests.{not-none}
 use borrow.Author.Needs.{needs}
 use Rattle.vad_state.proofs.segment_sound.Statement.{statement}
 use Rattle.vad_state.proofs.segment_sound.Tie as tie
@@ -16,13 +15,19 @@ after : (k : tie.Else1) → let s = k .before .before .args in leb (s .last-segm
 after k = le-leb _ _ (k .if1 .left)
 
 start : (k : tie.Else2) → let s = k .before .before .before .before .args in leb (s .segment .«start_sample») (s .received) ≡ true
-start k = le-leb _ _ (k .if2 .left)
+start k =
+    let s = k .before .before .before .before .args in
+    let by : s .segment .«start_sample» ≤ s .received = omega (arith, k .if2 .left) in
+    le-leb _ _ by
 
 loud-end : (k : tie.Else3) → let s = k .before .before .before .before .before .before .args in leb (s .segment .«last_end_sample») (s .received) ≡ true
 loud-end k = le-leb _ _ (k .if3 .left)
 
 some : (k : tie.Else4) → ltb 0 (k .before .before .before .before .before .before .before .before .args .segment .«frame_count») ≡ true
-some k = lt-ltb _ _ (not-none _ (k .if4 .left))
+some k =
+    let n = k .before .before .before .before .before .before .before .before .args .segment .«frame_count» in
+    let one : 0 < n = omega (arith, k .if4 .left) in
+    lt-ltb _ _ one
 
 count : (k : tie.Else5) → let s = k .before .before .before .before .before .before .before .before .before .before .args in leb (s .segment .«frame_count») (s .received) ≡ true
 count k = le-leb _ _ (k .if5 .left)
@@ -43,7 +48,8 @@ returns-2 : tie.Need-returns-2
 unfolding segmentSound
 returns-2 c =
     let s = c .before .before .before .before .args in
-    simp (after (c .before .before), lt-leb (s .segment .«start_sample») (s .received) (c .if2 .taken))
+    let past : s .received < s .segment .«start_sample» = omega (arith, c .if2 .taken) in
+    simp (after (c .before .before), lt-leb (s .segment .«start_sample») (s .received) past)
 
 returns-3 : tie.Need-returns-3
 unfolding segmentSound
@@ -55,7 +61,8 @@ returns-4 : tie.Need-returns-4
 unfolding segmentSound
 returns-4 c =
     let s = c .before .before .before .before .before .before .before .before .args in
-    simp (after (c .before .before .before .before .before .before), start (c .before .before .before .before), loud-end (c .before .before), le-ltb 0 (s .segment .«frame_count») (le-of-eq (c .if4 .taken)))
+    let none : s .segment .«frame_count» ≤ 0 = omega (arith, c .if4 .taken) in
+    simp (after (c .before .before .before .before .before .before), start (c .before .before .before .before), loud-end (c .before .before), le-ltb 0 (s .segment .«frame_count») none)
 
 returns-5 : tie.Need-returns-5
 unfolding segmentSound
