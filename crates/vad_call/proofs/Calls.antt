@@ -48,7 +48,7 @@ module _ (d : VadDetector) (xs : List Float) (long : length (d .carry) ≡ 2048)
 
   -- the carry put first, then the block's values
   pub gathered : (to whole last : List Float) (coeff : Float) → d .«carry_len» + length xs ≤ length to
-      → whole ≡ sets to 0 (take (d .«carry_len» - 0) (d .carry)) → coeff ≡ coefficientOf (d .rules .config .«has_pre_emphasis») (d .rules .config .«pre_emphasis»)
+      → whole ≡ sets to 0 (take (d .«carry_len») (d .carry)) → coeff ≡ coefficientOf (d .rules .config .«has_pre_emphasis») (d .rules .config .«pre_emphasis»)
       → last ≡ sets (take (length whole - d .«carry_len») (drop (d .«carry_len») whole)) 0 (emphasized coeff (d .«pre_emphasis_prev») xs)
       → take (d .«carry_len») whole ++ (last ++ drop (length whole - d .«carry_len») (drop (d .«carry_len») whole)) ≡ sets to 0 (valuesOf d xs)
   unfolding valuesOf carriedOf
@@ -57,7 +57,7 @@ module _ (d : VadDetector) (xs : List Float) (long : length (d .carry) ≡ 2048)
       let a = coefficientOf (d .rules .config .«has_pre_emphasis») (d .rules .config .«pre_emphasis») in
       let ys = emphasized a (d .«pre_emphasis_prev») xs in
       let many : length ys ≡ length xs = emphasized-length a (d .«pre_emphasis_prev») xs in
-      put-on to (take n (d .carry)) ys whole last n carried-length (omega arith) (w ∙ ap (sets to 0) (from-start n (d .carry)))
+      put-on to (take n (d .carry)) ys whole last n carried-length (omega arith) w
       (l ∙ ap (λ (c : Float). sets (take (length whole - n) (drop n whole)) 0 (emphasized c (d .«pre_emphasis_prev») xs)) e)
 
 -- ---- waiting
@@ -83,9 +83,9 @@ module _ (d : VadDetector) where
       go false off = omega arith
 
   -- the part of the array that they are in
-  pub waiting-part : (n : ℕ) → n ≡ length (waitingOf d) → take (n - 0) (d .warmup) ≡ waitingOf d
+  pub waiting-part : (n : ℕ) → n ≡ length (waitingOf d) → take n (d .warmup) ≡ waitingOf d
   unfolding waitingOf heldOf
-  waiting-part n h = from-start n (d .warmup) ∙ ap (λ (k : ℕ). take k (d .warmup)) h ∙ go (d .warming)
+  waiting-part n h = ap (λ (k : ℕ). take k (d .warmup)) h ∙ go (d .warming)
     where
       go : (b : Bool) → take (length (cond b (take (d .held) (d .warmup)) [])) (d .warmup) ≡ cond b (take (d .held) (d .warmup)) []
       go true = take-again (d .held) (d .warmup)
@@ -114,24 +114,23 @@ module _ (finish : Bool) (d : VadDetector) (s : Sound d) (long : length (d .wind
   measured-few values m = omega (arith, measured-length values, frames-few values m, waiting-few d s)
 
   module _ (values : List Float) (m : length values ≤ 3072) (held : ℕ) (h : held ≡ length (waitingOf d)) where
-    -- what `frame_signal` asks
-    pub frames-asked : (whole : List Float) → length whole ≡ 1024 → let w = take (d .rules .lengths .«frame_length» - 0) (d .window) in let hop = d .rules .lengths .«hop_length» in
-        ((1 ≤ hop) × (hop ≤ length w)) × (length (framesOf finish (length w) hop values) ≤ length (take (length whole - held) (drop held whole)))
-    unfolding windowOf
+    -- what `frame_values` asks
+    pub frames-asked : (whole : List Float) → length whole ≡ 1024 → let n = d .rules .lengths .«frame_length» in let hop = d .rules .lengths .«hop_length» in
+        ((1 ≤ hop) × (hop ≤ n) × (n ≤ length (d .window))) × (length (framesOf finish n hop values) ≤ length (take (length whole - held) (drop held whole)))
     frames-asked whole e =
-        let few = frames-few values m in
+        let few : length (framesOf finish (d .rules .lengths .«frame_length») (d .rules .lengths .«hop_length») values) ≤ 384 = rw (sym window-length) (frames-few values m) in
         let wait = waiting-few d s in
         let left = length-drop held whole in
         let room = length-take (length whole - held) (drop held whole) in
         let low = hop-low d s in
         let high = hop-high d s in
-        let wide = window-length in
-        rw (from-start (d .rules .lengths .«frame_length») (d .window)) ((omega arith, omega arith), omega arith)
+        let most = frame-high d s in
+        ((omega arith, omega arith, omega arith), omega arith)
 
-    module _ (r : Framed) (e : r ≡ framedOf finish (take (d .rules .lengths .«frame_length» - 0) (d .window)) (d .rules .lengths .«hop_length») values) where
+    module _ (r : Framed) (e : r ≡ framedOf finish (take (d .rules .lengths .«frame_length») (d .window)) (d .rules .lengths .«hop_length») values) where
       framed-is : r ≡ framedOf finish (windowOf d) (d .rules .lengths .«hop_length») values
       unfolding windowOf
-      framed-is = e ∙ ap (λ (w : List Float). framedOf finish w (d .rules .lengths .«hop_length») values) (from-start (d .rules .lengths .«frame_length») (d .window))
+      framed-is = e
 
       pub measured-count : held + r .frames ≡ length (measuredFrom finish d values)
       unfolding framedOf
@@ -142,8 +141,8 @@ module _ (finish : Bool) (d : VadDetector) (s : Sound d) (long : length (d .wind
       measured-used = ap (λ (f : Framed). f .consumed) framed-is
 
     -- those held put first, then the new ones
-    pub measured-put : (to whole last : List Float) → length to ≡ 1024 → whole ≡ sets to 0 (take (held - 0) (d .warmup))
-        → last ≡ sets (take (length whole - held) (drop held whole)) 0 (energiesOf finish (take (d .rules .lengths .«frame_length» - 0) (d .window)) (d .rules .lengths .«hop_length») values)
+    pub measured-put : (to whole last : List Float) → length to ≡ 1024 → whole ≡ sets to 0 (take held (d .warmup))
+        → last ≡ sets (take (length whole - held) (drop held whole)) 0 (energiesOf finish (take (d .rules .lengths .«frame_length») (d .window)) (d .rules .lengths .«hop_length») values)
         → take held whole ++ (last ++ drop (length whole - held) (drop held whole)) ≡ sets to 0 (measuredFrom finish d values)
     unfolding measuredFrom windowOf
     measured-put to whole last room w l =
@@ -152,8 +151,7 @@ module _ (finish : Bool) (d : VadDetector) (s : Sound d) (long : length (d .wind
         let few = frames-few values m in
         let wait = waiting-few d s in
         let many = energies-length finish (take (d .rules .lengths .«frame_length») (d .window)) hop values in
-        put-on to (waitingOf d) es whole last held (sym h) (omega arith) (w ∙ ap (sets to 0) (waiting-part d held h))
-        (l ∙ ap (λ (x : List Float). sets (take (length whole - held) (drop held whole)) 0 (energiesOf finish x hop values)) (from-start (d .rules .lengths .«frame_length») (d .window)))
+        put-on to (waitingOf d) es whole last held (sym h) (omega arith) (w ∙ ap (sets to 0) (waiting-part d held h)) l
 
   -- what stays fits its array
   pub carry-few : (xs : List Float) → length (carryAfter finish d xs) ≤ 2048

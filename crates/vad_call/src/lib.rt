@@ -3,9 +3,10 @@ ghost use mathlib.Core.Path.{_≡_};
 ghost use mathlib.Core.Bool.{true, cond};
 ghost use Prim.Native.Nat.{_+_, _≤_, _^_};
 ghost use mathlib.Core.List.{[]};
-ghost use lib.ListN.{length};
+ghost use lib.ListN.{length, take};
 ghost use lib.Seq.{sets};
 ghost use Rattle.vad_frames.specs.Emphasis.{lastOf};
+ghost use Rattle.vad_frames.specs.Grid.{framesOf, energiesOf, framedOf};
 ghost use Rattle.vad_segments.specs.Closing.{roomOf, flat};
 ghost use Rattle.vad_state.specs.State.{soundOf};
 ghost use Rattle.vad_call.specs.Calls.{valuesOf, waitingOf, measuredFrom, consumedFrom, holdingWith, dueOf, seededOf, gridStart, verdictOf, rowsDue, advancedOf, refusedBy, acceptedOf, concludedOf, reportedIn, ranOf, writtenOf};
@@ -14,9 +15,10 @@ use vad_segments::Classified;
 use vad_segments::ROW_FIELDS;
 use vad_segments::Track;
 use vad_state::VadDetector;
-use vad_state::arrays::filled;
-use vad_state::arrays::filled_warmup;
-use vad_state::arrays::put;
+use vad_state::arrays::clear_past;
+use vad_state::arrays::fill;
+use vad_state::arrays::fill_warmup;
+use vad_state::arrays::put_first;
 
 // The number of a refusal, 0 for none, and what it carries: 16 the sample's place, 18 the rows needed.
 pub struct Refusal {
@@ -53,9 +55,8 @@ fn gather(detector: VadDetector, samples: &[f32], values: &mut [f32]) -> f32
     ensures { λ r. ⌜ r ≡ lastOf (detector .«pre_emphasis_prev») (now (samples .entry)) ⌝ }
     ensures { λ _. ⌜ now (values .exit) ≡ sets (now (values .entry)) 0 (valuesOf detector (now (samples .entry))) ⌝ }
 {
-    let carry = detector.carry;
     let carry_len = detector.carry_len;
-    put(values, &carry[0..carry_len]);
+    put_first(values, &detector.carry, carry_len);
     let coeff = vad_frames::coefficient(
         detector.rules.config.has_pre_emphasis,
         detector.rules.config.pre_emphasis,
@@ -79,6 +80,29 @@ fn waiting(detector: VadDetector) -> usize
     0
 }
 
+// The frames by the frame's part of the window, which is lent whole.
+fn frame_values(
+    values: &[f32],
+    window: &[f32],
+    frame_length: usize,
+    hop_length: usize,
+    finish: bool,
+    energies: &mut [f32],
+) -> Framed
+    requires { ⌜ (1 ≤ «hop_length») × («hop_length» ≤ «frame_length») × («frame_length» ≤ length (now window)) ⌝ }
+    requires { ⌜ length (framesOf finish «frame_length» «hop_length» (now values)) ≤ length (now energies) ⌝ }
+    ensures { λ r. ⌜ r ≡ framedOf finish (take «frame_length» (now (window .entry))) «hop_length» (now (values .entry)) ⌝ }
+    ensures { λ _. ⌜ now (energies .exit) ≡ sets (now (energies .entry)) 0 (energiesOf finish (take «frame_length» (now (window .entry))) «hop_length» (now (values .entry))) ⌝ }
+{
+    vad_frames::frame_signal(
+        values,
+        &window[0..frame_length],
+        hop_length,
+        finish,
+        energies,
+    )
+}
+
 // The energies held, then those of the frames in the values; answers how many they are in all, and how many values were used up.
 fn measure(detector: VadDetector, values: &[f32], finish: bool, energies: &mut [f32]) -> Framed
     requires { ⌜ soundOf detector ≡ true ⌝ }
@@ -88,13 +112,12 @@ fn measure(detector: VadDetector, values: &[f32], finish: bool, energies: &mut [
     ensures { λ _. ⌜ now (energies .exit) ≡ sets (now (energies .entry)) 0 (measuredFrom finish detector (now (values .entry))) ⌝ }
 {
     let frame_length = detector.rules.lengths.frame_length;
-    let window = detector.window;
-    let warmup = detector.warmup;
     let held = waiting(detector);
-    put(energies, &warmup[0..held]);
-    let framed = vad_frames::frame_signal(
+    put_first(energies, &detector.warmup, held);
+    let framed = frame_values(
         values,
-        &window[0..frame_length],
+        &detector.window,
+        frame_length,
         detector.rules.lengths.hop_length,
         finish,
         &mut energies[held..],
@@ -206,9 +229,9 @@ fn report(
     );
 }
 
-// The state after a call that was not refused.
+// The state after a call that was not refused, in place: its arrays are not copied.
 fn advanced(
-    detector: VadDetector,
+    mut detector: VadDetector,
     progress: Progress,
     holds: bool,
     carry: &[f32],
@@ -220,24 +243,17 @@ fn advanced(
     ensures { λ r. ⌜ r ≡ advancedOf detector progress holds (now (carry .entry)) (now (kept .entry)) track ⌝ }
 {
     let frame_length = detector.rules.lengths.frame_length;
-    let old = detector.window;
-    let window = filled(&old[0..frame_length]);
-    let values = filled(carry);
-    let warmup = filled_warmup(kept);
-    let rules = detector.rules;
-    VadDetector {
-        rules,
-        window,
-        carry: values,
-        carry_len: carry.len(),
-        carry_start: progress.carry_start,
-        processed_samples: progress.processed_samples,
-        pre_emphasis_prev: progress.pre_emphasis_prev,
-        warming: holds,
-        warmup,
-        held: kept.len(),
-        track,
-    }
+    clear_past(&mut detector.window, frame_length);
+    fill(&mut detector.carry, carry);
+    fill_warmup(&mut detector.warmup, kept);
+    detector.carry_len = carry.len();
+    detector.carry_start = progress.carry_start;
+    detector.processed_samples = progress.processed_samples;
+    detector.pre_emphasis_prev = progress.pre_emphasis_prev;
+    detector.warming = holds;
+    detector.held = kept.len();
+    detector.track = track;
+    detector
 }
 
 fn accepted(

@@ -5,7 +5,7 @@ use Prim.Native.Nat.{ℕ, zero, suc, _+_, _-_, _≤_, _<_}
 use native.Mathlib.Numerals.{add-one}
 use native.Mathlib.Omega.{arith}
 use lib.ListN.{length, take, drop, getD, set, replicate, drop-of-length-le, length-append, length-drop, length-replicate}
-use lib.Seq.{sets, take-append-seam, drop-append-seam, drop-cons, drop-drop, drop-append-le, take-at, drop-at, take-length, drop-length, length-sets}
+use lib.Seq.{sets, sets-eq, take-append-seam, drop-append-seam, drop-cons, drop-drop, drop-append-le, take-at, drop-at, take-length, drop-length, length-sets, length-take-le}
 use lib.Ieee.{Float, nan}
 use Rattle.lists.specs.Stores.{sets-cons, sets-all}
 use Rattle.vad_config.specs.Domain.{zero32}
@@ -33,6 +33,28 @@ put-filled n xs h =
     let long = length-replicate n zero32 in
     sets-all (replicate n zero32) xs (omega arith) ∙ ap (λ (zs : List Float). xs ++ zs) (drop-replicate (length xs) n zero32)
 
+-- one turn of `clear`
+pub clear-step : (to : List Float) (i n : ℕ) → i < n → sets (set to i zero32) (i + 1) (replicate (n - (i + 1)) zero32) ≡ sets to i (replicate (n - i) zero32)
+clear-step to i n h = let e : n - i ≡ suc (n - (i + 1)) = omega arith in sets-cons to i zero32 (replicate (n - (i + 1)) zero32) ∙ rw e
+
+-- its end
+pub clear-end : (to : List Float) (i n : ℕ) → n ≤ i → sets to i (replicate (n - i) zero32) ≡ to
+clear-end to i n h = let e : n - i ≡ 0 = omega arith in rw e
+
+-- and what it leaves
+pub cleared : (to : List Float) (i : ℕ) → i ≤ length to → sets to i (replicate (length to - i) zero32) ≡ filledOf (length to) (take i to)
+unfolding filledOf
+cleared to i h =
+    let zs = replicate (length to - i) zero32 in
+    let many = length-replicate (length to - i) zero32 in
+    let first : i ≡ length (take i to) = sym (length-take-le i to h) in
+    let over : length to ≤ i + length zs = omega arith in
+    let none : drop (i + length zs) to ≡ [] = drop-of-length-le to over in
+    sets-eq zs to i (omega arith)
+    ∙ ap (λ (ys : List Float). (take i to ++ zs) ++ ys) none
+    ∙ append-nil (take i to ++ zs)
+    ∙ ap (λ (k : ℕ). take i to ++ replicate (length to - k) zero32) first
+
 -- ---- parts
 -- a part from the start on
 pub from-start : (n : ℕ) (xs : List Float) → take (n - 0) xs ≡ take n xs
@@ -47,6 +69,13 @@ take-again (suc n) (x ∷ xs) = ap (λ (ys : List Float). x ∷ ys) (take-again 
 -- what was put, read again
 pub put-back : (to xs : List Float) (n : ℕ) → length xs ≡ n → n ≤ length to → take n (sets to 0 xs) ≡ xs
 put-back to xs n h r = ap (take n) (sets-all to xs (omega arith)) ∙ take-at xs (drop (length xs) to) n h
+
+-- numbers put over others, and what stands past them cleared
+pub put-cleared : (n : ℕ) (to xs whole : List Float) → length to ≡ n → length xs ≤ n → whole ≡ sets to 0 xs → filledOf (length whole) (take (length xs) whole) ≡ filledOf n xs
+put-cleared n to xs whole long h w =
+    let count : length whole ≡ n = ap length w ∙ length-sets to 0 xs ∙ long in
+    ap (λ (k : ℕ). filledOf k (take (length xs) whole)) count
+    ∙ ap (filledOf n) (ap (take (length xs)) w ∙ put-back to xs (length xs) refl (omega arith))
 
 -- and a part of it
 pub put-rest : (to xs : List Float) (i n : ℕ) → length xs ≡ n → n ≤ length to → i ≤ n → take (n - i) (drop i (sets to 0 xs)) ≡ drop i xs

@@ -3,6 +3,7 @@ use mathlib.Core.Path.{_≡_}
 use mathlib.Core.Bool.{Bool}
 use mathlib.Core.List.{List}
 use Prim.Native.Nat.{ℕ}
+use lib.ListN.{take}
 use lib.Seq.{sets}
 use lib.Ieee.{Float}
 use Rattle.float.proofs.Unique.{only}
@@ -16,9 +17,12 @@ sound-unique d r q = only
 pub handed-in-unique : (window : List Float) (rise : Float) (r q : Bool) → r ≡ handedIn window rise → q ≡ handedIn window rise → r ≡ q
 handed-in-unique window rise r q = only
 
--- for both lengths of arrays
+-- of `filled` and the two that fill in place
 pub filled-unique : (n : ℕ) (xs r q : List Float) → r ≡ filledOf n xs → q ≡ filledOf n xs → r ≡ q
 filled-unique n xs r q = only
 
-pub put-unique : (to xs r q : List Float) → r ≡ sets to 0 xs → q ≡ sets to 0 xs → r ≡ q
-put-unique to xs r q = only
+pub put-first-unique : (to xs r q : List Float) (n : ℕ) → r ≡ sets to 0 (take n xs) → q ≡ sets to 0 (take n xs) → r ≡ q
+put-first-unique to xs r q n = only
+
+pub clear-past-unique : (n : ℕ) (xs r q : List Float) → r ≡ filledOf 2048 (take n xs) → q ≡ filledOf 2048 (take n xs) → r ≡ q
+clear-past-unique n xs r q = only

@@ -1,18 +1,38 @@
 // Numbers put into arrays.
 ghost use mathlib.Core.Path.{_≡_};
 ghost use Prim.Native.Nat.{_≤_};
-ghost use lib.ListN.{length};
+ghost use lib.ListN.{length, take};
 ghost use lib.Seq.{sets};
 ghost use Rattle.vad_state.specs.Arrays.{filledOf};
 
 // The numbers at the slice's start; what stands past them stays.
-pub fn put(to: &mut [f32], numbers: &[f32])
+fn put(to: &mut [f32], numbers: &[f32])
     requires { ⌜ length (now numbers) ≤ length (now to) ⌝ }
     ensures { λ _. ⌜ now (to .exit) ≡ sets (now (to .entry)) 0 (now (numbers .entry)) ⌝ }
 {
     let mut i = 0;
     while i < numbers.len() {
         to[i] = numbers[i];
+        i += 1;
+    }
+}
+
+// Only the first n of the numbers: a struct's array is lent whole, since the borrow checker covers no part of it.
+pub fn put_first(to: &mut [f32], numbers: &[f32], n: usize)
+    requires { ⌜ (n ≤ length (now numbers)) × (n ≤ length (now to)) ⌝ }
+    ensures { λ _. ⌜ now (to .exit) ≡ sets (now (to .entry)) 0 (take n (now (numbers .entry))) ⌝ }
+{
+    put(to, &numbers[0..n]);
+}
+
+// Zeros from a place on.
+fn clear(to: &mut [f32], from: usize)
+    requires { ⌜ from ≤ length (now to) ⌝ }
+    ensures { λ _. ⌜ now (to .exit) ≡ filledOf (length (now (to .entry))) (take from (now (to .entry))) ⌝ }
+{
+    let mut i = from;
+    while i < to.len() {
+        to[i] = 0.0;
         i += 1;
     }
 }
@@ -27,11 +47,27 @@ pub fn filled(numbers: &[f32]) -> [f32; 2048]
     array
 }
 
-pub fn filled_warmup(energies: &[f32]) -> [f32; 300]
-    requires { ⌜ length (now energies) ≤ 300 ⌝ }
-    ensures { λ r. ⌜ r ≡ filledOf 300 (now (energies .entry)) ⌝ }
+// The same in place, so that a state's array is not copied.
+pub fn fill(to: &mut [f32; 2048], numbers: &[f32])
+    requires { ⌜ length (now numbers) ≤ 2048 ⌝ }
+    ensures { λ _. ⌜ now (to .exit) ≡ filledOf 2048 (now (numbers .entry)) ⌝ }
 {
-    let mut array = [0.0; 300];
-    put(&mut array, energies);
-    array
+    put(to, numbers);
+    clear(to, numbers.len());
+}
+
+pub fn fill_warmup(to: &mut [f32; 300], energies: &[f32])
+    requires { ⌜ length (now energies) ≤ 300 ⌝ }
+    ensures { λ _. ⌜ now (to .exit) ≡ filledOf 300 (now (energies .entry)) ⌝ }
+{
+    put(to, energies);
+    clear(to, energies.len());
+}
+
+// The first n numbers stay.
+pub fn clear_past(to: &mut [f32; 2048], n: usize)
+    requires { ⌜ n ≤ 2048 ⌝ }
+    ensures { λ _. ⌜ now (to .exit) ≡ filledOf 2048 (take n (now (to .entry))) ⌝ }
+{
+    clear(to, n);
 }

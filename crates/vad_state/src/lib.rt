@@ -210,14 +210,12 @@ fn kept_sound(detector: VadDetector) -> bool
     ensures { λ r. ⌜ r ≡ (settingsSound (detector .rules) (detector .window) && carrySound (detector .rules .lengths .«frame_length») (detector .carry) (detector .«carry_len») (detector .«carry_start») (detector .«processed_samples») (detector .«pre_emphasis_prev»)) ⌝ }
 {
     let rules = detector.rules;
-    let window = detector.window;
-    if !settings_sound(rules, &window) {
+    if !settings_sound(rules, &detector.window) {
         return false;
     }
-    let carry = detector.carry;
     carry_sound(
         detector.rules.lengths.frame_length,
-        &carry,
+        &detector.carry,
         detector.carry_len,
         detector.carry_start,
         detector.processed_samples,
@@ -258,10 +256,9 @@ fn warmup_sound(detector: VadDetector) -> bool
     let lengths = rules.lengths;
     let track = detector.track;
     let active = track.active_segment;
-    let warmup = detector.warmup;
     held_sound(
         lengths,
-        &warmup,
+        &detector.warmup,
         detector.held,
         detector.carry_start,
         active,

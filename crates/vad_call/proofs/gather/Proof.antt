@@ -1,4 +1,5 @@
 use mathlib.Core.Path.{_≡_, sym, _∙_}
+use native.Mathlib.Omega.{arith}
 use lib.ListN.{length}
 use Rattle.lists.specs.Every.{length-map}
 use Rattle.vad_call.proofs.Calls.{gathered}
@@ -6,20 +7,11 @@ use borrow.Author.Needs.{needs}
 use Rattle.vad_call.proofs.gather.Statement.{statement}
 use Rattle.vad_call.proofs.gather.Tie as tie
 
-carry-long : (s : tie.Start) → length (s .args .detector .carry) ≡ 2048
-carry-long s = sym (length-map _ (s .args .detector .carry)) ∙ s .good .0 .1 .1 .1 .1 .0 .1 .0 .1
+carry-long : (s : tie.Start) → length (s .args .t1 .carry) ≡ 2048
+carry-long s = sym (length-map _ (s .args .t1 .carry)) ∙ s .good .0 .1 .1 .1 .1 .0 .1 .0 .1
 
-sub-put : tie.Need-sub-put
-sub-put c = search needs
-
-part-put-start : tie.Need-part-put-start
-part-put-start c = search needs
-
-part-put-end : tie.Need-part-put-end
-part-put-end c = let long = carry-long (c .before .before .before .before .before) in search needs
-
-put-requires : tie.Need-put-requires
-put-requires c κs = search needs
+put-first-requires : tie.Need-put-first-requires
+put-first-requires c κs = let long = carry-long (c .before .before .before .before .before .before) in (omega arith, omega arith)
 
 coefficient-requires : tie.Need-coefficient-requires
 coefficient-requires c κs = search needs
@@ -45,9 +37,9 @@ same-length c = search needs
 returns : tie.Need-returns
 returns c =
     let s = c .before .before .before .before .before .before .before .before .before .before .before .before .before .before in
-    let d = s .args .detector in
+    let d = s .args .t1 in
     let xs = s .args .samples .now in
-    let put = c .before .before .before .before .before .before .before .put in
+    let put = c .before .before .before .before .before .before .before .put-first in
     let coeff = c .before .before .before .before .coefficient in
     let last = c .before .before .pre-emphasize in (
       last .ensures .0,
@@ -58,10 +50,7 @@ pub gather-spec : {M : Type 1} → statement M
 gather-spec =
     tie.close
     (tie.spec
-    sub-put
-    part-put-start
-    part-put-end
-    put-requires
+    put-first-requires
     coefficient-requires
     mul-pre-emphasize
     sub-pre-emphasize
