@@ -1,13 +1,12 @@
 -- One turn of each loop, and the ways through an opening and the bias, over plain variables. Assumes nothing.
-use mathlib.Core.Path.{_≡_, refl, _∙_}
+use mathlib.Core.Path.{_≡_, refl}
 use mathlib.Core.Bool.{true, false}
 use mathlib.Core.List.{List, [], _∷_}
 use Prim.Native.Nat.{ℕ, suc, _+_, _-_, _≤_, _<_}
 use native.Mathlib.Numerals.{add-one}
 use native.Mathlib.Omega.{arith}
-use lib.ListN.{length, drop, set, getD, replicate, drop-of-length-le}
-use lib.Seq.{drop-cons, sets}
-use Rattle.lists.specs.Stores.{sets-cons}
+use lib.ListN.{length, drop, getD, drop-of-length-le}
+use lib.Seq.{drop-cons}
 use lib.Ieee.{Float, nan, binary32, add}
 use lib.Ieee.Scale.{finite}
 use Rattle.dc_highpass.specs.Filter.{coefficientsOf, freshOf, nothingOpen, openOf, isEmpty, listens, biasOf, biasedOf, sumFrom, passOf, resultsOf, afterOf}
@@ -50,14 +49,6 @@ module _ (i : ℕ) (xs : List Float) (h : i < length xs) where
     pub results-stop : finite (passOf f (getD xs i nan) .output) ≡ false → resultsOf f (drop i xs) ≡ []
     unfolding resultsOf
     results-stop d = rw (drop-cons xs i nan, d)
-
--- ---- what is written
-
-pub clear-step : (l : List Float) (i n : ℕ) (z : Float) → i < n → sets (set l i z) (i + 1) (replicate (n - (i + 1)) z) ≡ sets l i (replicate (n - i) z)
-clear-step l i n z h = let e : n - i ≡ suc (n - (i + 1)) = omega arith in sets-cons l i z (replicate (n - (i + 1)) z) ∙ rw e
-
-pub clear-end : (l : List Float) (i n : ℕ) (z : Float) → n ≤ i → sets l i (replicate (n - i) z) ≡ l
-clear-end l i n z h = let e : n - i ≡ 0 = omega arith in rw e
 
 -- ---- the block's length
 

@@ -1,11 +1,11 @@
 -- Stores into a lent slice, one after the other: `sets l i vs` of lib.Seq, for any element. Theorems only; assumes nothing.
-use mathlib.Core.Path.{_≡_}
+use mathlib.Core.Path.{_≡_, _∙_}
 use mathlib.Core.List.{List, [], _∷_, _++_}
-use Prim.Native.Nat.{ℕ, suc, _+_, _≤_}
+use Prim.Native.Nat.{ℕ, suc, _+_, _-_, _≤_, _<_}
 use native.Mathlib.Nat.{zero-add, add-zero}
 use native.Mathlib.Numerals.{add-one}
 use native.Mathlib.Omega.{arith}
-use lib.ListN.{length, drop, set}
+use lib.ListN.{length, take, drop, set, replicate}
 use lib.Seq.{sets, sets-eq}
 
 module _ {A : Type 0} where
@@ -20,3 +20,14 @@ module _ {A : Type 0} where
   -- from the slice's start
   pub sets-all : (l vs : List A) → length vs ≤ length l → sets l 0 vs ≡ vs ++ drop (length vs) l
   sets-all l vs h = rw (sets-eq vs l 0 (omega arith), zero-add (length vs))
+
+  -- one element over and over: a turn of such a loop, and its end
+  pub clear-step : (l : List A) (i n : ℕ) (z : A) → i < n → sets (set l i z) (i + 1) (replicate (n - (i + 1)) z) ≡ sets l i (replicate (n - i) z)
+  clear-step l i n z h = let e : n - i ≡ suc (n - (i + 1)) = omega arith in sets-cons l i z (replicate (n - (i + 1)) z) ∙ rw e
+
+  pub clear-end : (l : List A) (i n : ℕ) (z : A) → n ≤ i → sets l i (replicate (n - i) z) ≡ l
+  clear-end l i n z h = let e : n - i ≡ 0 = omega arith in rw e
+
+  -- a part from the start, as the code's `&xs[0..n]` reads
+  pub from-start : (n : ℕ) (xs : List A) → take (n - 0) xs ≡ take n xs
+  from-start n xs = let e : n - 0 ≡ n = omega arith in rw e

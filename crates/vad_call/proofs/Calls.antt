@@ -28,7 +28,8 @@ use Rattle.vad_call.specs.Calls.{valuesOf, waitingOf, measuredFrom, meas
 use Rattle.vad_state.specs.declared.VadDetector.{VadDetector}
 use Rattle.vad_call.specs.declared.Progress.{Progress}
 use Rattle.vad_call.specs.declared.Detected.{Detected}
-use Rattle.vad_state.proofs.Fills.{from-start, take-again, put-back, put-rest, put-on}
+use Rattle.lists.specs.Stores.{from-start}
+use Rattle.vad_state.proofs.Fills.{take-again, put-back, put-rest, put-on}
 use Rattle.vad_state.proofs.Parts.{Sound, frame-high, hop-low, hop-high, warmup-high}
 
 -- ---- gather

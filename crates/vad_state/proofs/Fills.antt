@@ -33,15 +33,7 @@ put-filled n xs h =
     let long = length-replicate n zero32 in
     sets-all (replicate n zero32) xs (omega arith) ∙ ap (λ (zs : List Float). xs ++ zs) (drop-replicate (length xs) n zero32)
 
--- one turn of `clear`
-pub clear-step : (to : List Float) (i n : ℕ) → i < n → sets (set to i zero32) (i + 1) (replicate (n - (i + 1)) zero32) ≡ sets to i (replicate (n - i) zero32)
-clear-step to i n h = let e : n - i ≡ suc (n - (i + 1)) = omega arith in sets-cons to i zero32 (replicate (n - (i + 1)) zero32) ∙ rw e
-
--- its end
-pub clear-end : (to : List Float) (i n : ℕ) → n ≤ i → sets to i (replicate (n - i) zero32) ≡ to
-clear-end to i n h = let e : n - i ≡ 0 = omega arith in rw e
-
--- and what it leaves
+-- what `clear` leaves
 pub cleared : (to : List Float) (i : ℕ) → i ≤ length to → sets to i (replicate (length to - i) zero32) ≡ filledOf (length to) (take i to)
 unfolding filledOf
 cleared to i h =
@@ -56,9 +48,6 @@ cleared to i h =
     ∙ ap (λ (k : ℕ). take i to ++ replicate (length to - k) zero32) first
 
 -- ---- parts
--- a part from the start on
-pub from-start : (n : ℕ) (xs : List Float) → take (n - 0) xs ≡ take n xs
-from-start n xs = let e : n - 0 ≡ n = omega arith in ap (λ (k : ℕ). take k xs) e
 
 -- as many as a part has, taken again
 pub take-again : (n : ℕ) (xs : List Float) → take (length (take n xs)) xs ≡ take n xs

@@ -7,7 +7,7 @@ use native.Mathlib.Nat.{le-trans, mul-le-mul, min-le-left}
 use native.Mathlib.Omega.{arith}
 use borrow.Author.Tests.{eq-eqb, ne-eqb}
 use lib.Dec.{eqb}
-use lib.ListN.{length, take, drop, length-take}
+use lib.ListN.{length, take, length-take}
 use lib.Ieee.{Float}
 use Rattle.ranges.proofs.Laws.{both}
 use Rattle.vad_config.specs.Settings.{refusalOf, lengthsOf}
@@ -28,9 +28,6 @@ pub start-joins : (start n received : ℕ) → start ≤ received → received -
 start-joins start n received l e = eq-eqb (start + n) received (omega arith)
 
 -- the part of an array from its start
-pub first-part : (n : ℕ) (xs : List Float) → take (n - 0) (drop 0 xs) ≡ take n xs
-first-part n xs = let e : n - 0 ≡ n = omega arith in rw e
-
 pub first-short : (n : ℕ) (xs : List Float) → n ≤ 2048 → length (take (n - 0) xs) ≤ 2048
 first-short n xs h = let e = length-take (n - 0) xs in let m = min-le-left (n - 0) (length xs) in omega arith
 

@@ -5,7 +5,7 @@ use lib.ListN.{length, set, replicate, length-set}
 use lib.Seq.{sets}
 use lib.Ieee.{binary32, ofBits}
 use borrow.Author.Needs.{needs}
-use Rattle.dc_highpass.proofs.Turns.{clear-step, clear-end}
+use Rattle.lists.specs.Stores.{clear-step, clear-end}
 use Rattle.dc_highpass.proofs.clear.Statement.{statement}
 use Rattle.dc_highpass.proofs.clear.Tie as tie
 

@@ -1,11 +1,11 @@
 use mathlib.Core.Path.{_≡_, ap, _∙_}
 use mathlib.Core.List.{List}
-use Prim.Native.Nat.{ℕ, _-_}
+use Prim.Native.Nat.{_-_}
 use lib.ListN.{length, take}
 use lib.Seq.{sets, length-take-le}
 use lib.Ieee.{Float}
 use Rattle.vad_frames.specs.Grid.{energiesOf, framedOf}
-use Rattle.vad_state.proofs.Fills.{from-start}
+use Rattle.lists.specs.Stores.{from-start}
 use borrow.Author.Needs.{needs}
 use Rattle.vad_call.proofs.frame_values.Statement.{statement}
 use Rattle.vad_call.proofs.frame_values.Tie as tie

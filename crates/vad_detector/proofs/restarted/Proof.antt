@@ -3,10 +3,11 @@ use Prim.Native.Nat.{_≤_}
 use native.Mathlib.Nat.{le-trans, le-of-eq}
 use lib.ListN.{length}
 use Rattle.lists.specs.Every.{length-map}
+use Rattle.lists.specs.Stores.{from-start}
 use Rattle.vad_state.specs.State.{windowOf}
 use Rattle.vad_detector.specs.Opening.{freshOf, restartedOf, resetTo}
 use Rattle.vad_state.proofs.Parts.{parts, frame-high}
-use Rattle.vad_state.proofs.Tests.{first-part, first-short}
+use Rattle.vad_state.proofs.Tests.{first-short}
 use borrow.Author.Needs.{needs}
 use Rattle.vad_detector.proofs.restarted.Statement.{statement}
 use Rattle.vad_detector.proofs.restarted.Tie as tie
@@ -31,7 +32,7 @@ fresh-requires c κs = let s = c .before .before .before .before .before .before
 
 returns : tie.Need-returns
 unfolding resetTo restartedOf windowOf
-returns c = let d = c .before .before .before .before .before .before .before .args .detector in c .fresh .ensures ∙ ap (freshOf _) (first-part (d .rules .lengths .«frame_length») (d .window))
+returns c = let d = c .before .before .before .before .before .before .before .args .detector in c .fresh .ensures ∙ ap (freshOf _) (from-start (d .rules .lengths .«frame_length») (d .window))
 
 pub restarted-spec : {M : Type 1} → statement M
 restarted-spec = tie.close (tie.spec sub-fresh part-fresh-start part-fresh-end fresh-requires returns)

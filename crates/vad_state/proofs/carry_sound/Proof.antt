@@ -6,8 +6,9 @@ use borrow.Author.Tests.{not-true, not-false, lt-ltb, le-ltb}
 use lib.Dec.{ltb, eqb}
 use lib.Ieee.{neg}
 use Rattle.ranges.specs.Ranges.{allWithin, inDomain}
+use Rattle.lists.specs.Stores.{from-start}
 use Rattle.vad_state.specs.State.{loudest32, carrySound}
-use Rattle.vad_state.proofs.Tests.{start-past, start-differs, start-joins, first-part}
+use Rattle.vad_state.proofs.Tests.{start-past, start-differs, start-joins}
 use borrow.Author.Needs.{needs}
 use Rattle.vad_state.proofs.carry_sound.Statement.{statement}
 use Rattle.vad_state.proofs.carry_sound.Tie as tie
@@ -57,7 +58,7 @@ unfolding carrySound
 returns-4 c =
     let k = c .before .before .before in
     let s = k .before .before .before .before .args in
-    let far = ap (λ xs. allWithin (neg loudest32) xs loudest32) (sym (first-part (s .carry-len) (s .carry .now))) ∙ sym (c .before .all-inside .ensures) ∙ not-true _ (c .if4 .taken) in
+    let far = ap (λ xs. allWithin (neg loudest32) xs loudest32) (sym (from-start (s .carry-len) (s .carry .now))) ∙ sym (c .before .all-inside .ensures) ∙ not-true _ (c .if4 .taken) in
     simp (short (k .before .before), joined k, far)
 
 inside-requires : tie.Need-inside-requires
@@ -68,7 +69,7 @@ unfolding carrySound inDomain
 returns-5 c =
     let k = c .before .before .before .before in
     let s = k .before .before .before .before .args in
-    let near = ap (λ xs. allWithin (neg loudest32) xs loudest32) (sym (first-part (s .carry-len) (s .carry .now))) ∙ sym (c .before .before .all-inside .ensures) ∙ not-false _ (c .before .if4 .left) in
+    let near = ap (λ xs. allWithin (neg loudest32) xs loudest32) (sym (from-start (s .carry-len) (s .carry .now))) ∙ sym (c .before .before .all-inside .ensures) ∙ not-false _ (c .before .if4 .left) in
     simp (short (k .before .before), joined k, near) (c .inside .ensures)
 
 pub carry-sound-spec : {M : Type 1} → statement M

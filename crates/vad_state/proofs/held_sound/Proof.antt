@@ -6,8 +6,9 @@ use borrow.Author.Tests.{not-true, not-false, lt-ltb, le-ltb, eq-eqb, ne-eqb}
 use lib.Dec.{ltb, eqb}
 use Rattle.ranges.specs.Ranges.{allWithin}
 use Rattle.vad_config.specs.Domain.{zero32}
+use Rattle.lists.specs.Stores.{from-start}
 use Rattle.vad_state.specs.State.{loudest32, heldSound}
-use Rattle.vad_state.proofs.Tests.{held-fits, first-part}
+use Rattle.vad_state.proofs.Tests.{held-fits}
 use borrow.Author.Needs.{needs}
 use Rattle.vad_state.proofs.held_sound.Statement.{statement}
 use Rattle.vad_state.proofs.held_sound.Tie as tie
@@ -58,7 +59,7 @@ unfolding heldSound
 returns-3 c =
     let k = c .before .before .before in
     let s = k .before .before .before .before .before .args in
-    let far = ap (λ xs. allWithin zero32 xs loudest32) (sym (first-part (s .held) (s .warmup .now))) ∙ sym (c .before .all-inside .ensures) ∙ not-true _ (c .if3 .taken) in
+    let far = ap (λ xs. allWithin zero32 xs loudest32) (sym (from-start (s .held) (s .warmup .now))) ∙ sym (c .before .all-inside .ensures) ∙ not-true _ (c .if3 .taken) in
     simp (few (k .before .before), placed k, far)
 
 is-closed-requires : tie.Need-is-closed-requires
@@ -69,7 +70,7 @@ unfolding heldSound
 returns-4 c =
     let k = c .before .before .before .before in
     let s = k .before .before .before .before .before .args in
-    let near = ap (λ xs. allWithin zero32 xs loudest32) (sym (first-part (s .held) (s .warmup .now))) ∙ sym (c .before .before .all-inside .ensures) ∙ not-false _ (c .before .if3 .left) in
+    let near = ap (λ xs. allWithin zero32 xs loudest32) (sym (from-start (s .held) (s .warmup .now))) ∙ sym (c .before .before .all-inside .ensures) ∙ not-false _ (c .before .if3 .left) in
     simp (few (k .before .before), placed k, near) (c .is-closed .ensures)
 
 pub held-sound-spec : {M : Type 1} → statement M

@@ -3,9 +3,10 @@ use mathlib.Core.Bool.{true}
 use Prim.Native.Nat.{_≤_}
 use borrow.Author.Tests.{not-true, not-false, eq-eqb, ne-eqb}
 use Rattle.vad_config.specs.Settings.{refusalOf, lengthsOf}
+use Rattle.lists.specs.Stores.{from-start}
 use Rattle.vad_state.specs.State.{handedIn, sameLengths, settingsSound}
 use Rattle.vad_state.proofs.Parts.{same-parts}
-use Rattle.vad_state.proofs.Tests.{first-part, frame-short}
+use Rattle.vad_state.proofs.Tests.{frame-short}
 use borrow.Author.Needs.{needs}
 use Rattle.vad_state.proofs.settings_sound.Statement.{statement}
 use Rattle.vad_state.proofs.settings_sound.Tie as tie
@@ -55,7 +56,7 @@ unfolding settingsSound
 returns-3 c =
     let k = c .before .before in
     let s = k .before .before .before .before .before .before .before .before .args in
-    simp (eq-eqb _ _ (accepted (k .before .before .before .before)), derived k) (c .handed-in .ensures ∙ ap (λ xs. handedIn xs (s .rules .«speech_floor_rise»)) (first-part (s .rules .lengths .«frame_length») (s .window .now)))
+    simp (eq-eqb _ _ (accepted (k .before .before .before .before)), derived k) (c .handed-in .ensures ∙ ap (λ xs. handedIn xs (s .rules .«speech_floor_rise»)) (from-start (s .rules .lengths .«frame_length») (s .window .now)))
 
 pub settings-sound-spec : {M : Type 1} → statement M
 settings-sound-spec = tie.close (tie.spec validate-requires returns lengths-of-requires same-lengths-requires returns-2 sub-handed-in part-handed-in-start part-handed-in-end handed-in-requires returns-3)

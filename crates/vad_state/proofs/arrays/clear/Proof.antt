@@ -5,7 +5,8 @@ use lib.ListN.{length, set, replicate, length-set}
 use lib.Seq.{sets}
 use borrow.Author.Needs.{needs}
 use Rattle.vad_config.specs.Domain.{zero32}
-use Rattle.vad_state.proofs.Fills.{clear-step, clear-end, cleared}
+use Rattle.lists.specs.Stores.{clear-step, clear-end}
+use Rattle.vad_state.proofs.Fills.{cleared}
 use Rattle.vad_state.proofs.arrays.clear.Statement.{statement}
 use Rattle.vad_state.proofs.arrays.clear.Tie as tie
 
@@ -38,7 +39,7 @@ loop-again c =
     let n = length (l .before .args .to .now) in
     let inside : i < n = omega arith in
     let long : length (set to i zero32) ≡ length to = simp length-set in
-    (omega arith, long ∙ l .loop .inv .1, clear-step to i n inside ∙ l .loop .inv .2)
+    (omega arith, long ∙ l .loop .inv .1, clear-step to i n zero32 inside ∙ l .loop .inv .2)
 
 same-length : tie.Need-same-length Inv-loop μ-loop
 same-length c = search needs
@@ -49,7 +50,7 @@ returns c =
     let s = l .before in
     let n = length (s .args .to .now) in
     let over : n ≤ l .loop .i = omega arith in
-    sym (clear-end (l .loop .to) (l .loop .i) n over) ∙ l .loop .inv .2 ∙ cleared (s .args .to .now) (s .args .from) (s .pre)
+    sym (clear-end (l .loop .to) (l .loop .i) n zero32 over) ∙ l .loop .inv .2 ∙ cleared (s .args .to .now) (s .args .from) (s .pre)
 
 pub clear-spec : {M : Type 1} → statement M
 clear-spec =
