@@ -47,19 +47,19 @@ module _ (d : VadDetector) (xs : List Float) (long : length (d .carry) ≡ 2048)
   pub values-length : length (valuesOf d xs) ≡ d .«carry_len» + length xs
   values-length = values-count d xs carried-length
 
-  -- the carry put first, then the block's values
-  pub gathered : (to whole last : List Float) (coeff : Float) → d .«carry_len» + length xs ≤ length to
-      → whole ≡ sets to 0 (take (d .«carry_len») (d .carry)) → coeff ≡ coefficientOf (d .rules .config .«has_pre_emphasis») (d .rules .config .«pre_emphasis»)
-      → last ≡ sets (take (length whole - d .«carry_len») (drop (d .«carry_len») whole)) 0 (emphasized coeff (d .«pre_emphasis_prev») xs)
-      → take (d .«carry_len») whole ++ (last ++ drop (length whole - d .«carry_len») (drop (d .«carry_len») whole)) ≡ sets to 0 (valuesOf d xs)
-  unfolding valuesOf carriedOf
-  gathered to whole last coeff room w e l =
-      let n = d .«carry_len» in
-      let a = coefficientOf (d .rules .config .«has_pre_emphasis») (d .rules .config .«pre_emphasis») in
-      let ys = emphasized a (d .«pre_emphasis_prev») xs in
-      let many : length ys ≡ length xs = emphasized-length a (d .«pre_emphasis_prev») xs in
-      put-on to (take n (d .carry)) ys whole last n carried-length (omega arith) w
-      (l ∙ ap (λ (c : Float). sets (take (length whole - n) (drop n whole)) 0 (emphasized c (d .«pre_emphasis_prev») xs)) e)
+-- the carry put first, then the block's values
+pub gathered : (carry xs : List Float) (n : ℕ) (coeff previous : Float) (to whole last : List Float) → n ≤ length carry → n + length xs ≤ length to → whole ≡ sets to 0 (take n carry)
+    → last ≡ sets (take (length whole - n) (drop n whole)) 0 (emphasized coeff previous xs)
+    → take n whole ++ (last ++ drop (length whole - n) (drop n whole)) ≡ sets to 0 (take n carry ++ emphasized coeff previous xs)
+gathered carry xs n coeff previous to whole last few room w l =
+    let many = emphasized-length coeff previous xs in
+    put-on to (take n carry) (emphasized coeff previous xs) whole last n (length-take-le n carry few) (omega arith) w l
+
+-- they are the call's values
+pub gathered-values : (d : VadDetector) (xs : List Float) (coeff : Float) → coeff ≡ coefficientOf (d .rules .config .«has_pre_emphasis») (d .rules .config .«pre_emphasis»)
+    → take (d .«carry_len») (d .carry) ++ emphasized coeff (d .«pre_emphasis_prev») xs ≡ valuesOf d xs
+unfolding valuesOf carriedOf
+gathered-values d xs coeff e = ap (λ (c : Float). take (d .«carry_len») (d .carry) ++ emphasized c (d .«pre_emphasis_prev») xs) e
 
 -- ---- waiting
 module _ (d : VadDetector) where
@@ -93,66 +93,67 @@ module _ (d : VadDetector) where
       go false = refl
 
 -- ---- measure
+-- a hop is 8 at least
+frames-few : (finish : Bool) (n hop : ℕ) → 8 ≤ hop → (values : List Float) → length values ≤ 3072 → length (framesOf finish n hop values) ≤ 384
+frames-few finish n hop low values m = let most = frames-below finish n hop (omega arith) 8 values (lit≤ tt) low in omega arith
+
+joined-length : (finish : Bool) (held w : List Float) (hop : ℕ) (values : List Float) → length (held ++ energiesOf finish w hop values) ≡ length held + length (framesOf finish (length w) hop values)
+joined-length finish held w hop values = length-append held (energiesOf finish w hop values) ∙ ap (λ (k : ℕ). length held + k) (energies-length finish w hop values)
+
+module _ (finish : Bool) (window : List Float) (n hop : ℕ) (low : 8 ≤ hop) (wide : n ≤ length window) (warmup : List Float) (held : ℕ) (few : held ≤ 300) (there : held ≤ length warmup)
+    (values : List Float) (m : length values ≤ 3072) where
+  -- what `frame_values` asks of the rest of the energies
+  pub frames-asked : (whole : List Float) → length whole ≡ 1024 → length (framesOf finish n hop values) ≤ length (take (length whole - held) (drop held whole))
+  frames-asked whole e =
+      let most = frames-few finish n hop low values m in
+      let left = length-drop held whole in
+      let room = length-take (length whole - held) (drop held whole) in
+      omega arith
+
+  joined-count : length (take held warmup ++ energiesOf finish (take n window) hop values) ≡ held + length (framesOf finish (length (take n window)) hop values)
+  joined-count = let h = length-take-le held warmup there in omega (arith, joined-length finish (take held warmup) (take n window) hop values)
+
+  module _ (r : Framed) (e : r ≡ framedOf finish (take n window) hop values) where
+    pub joined-few : held + r .frames ≤ 1024
+    unfolding framedOf
+    joined-few = let most = frames-few finish (length (take n window)) hop low values m in let k = ap (λ (f : Framed). f .frames) e in omega arith
+
+    pub joined-is : held + r .frames ≡ length (take held warmup ++ energiesOf finish (take n window) hop values)
+    unfolding framedOf
+    joined-is = let k = ap (λ (f : Framed). f .frames) e in omega (arith, joined-count)
+
+  -- those held put first, then the new ones
+  pub joined-put : (to whole last : List Float) → length to ≡ 1024 → whole ≡ sets to 0 (take held warmup)
+      → last ≡ sets (take (length whole - held) (drop held whole)) 0 (energiesOf finish (take n window) hop values)
+      → take held whole ++ (last ++ drop (length whole - held) (drop held whole)) ≡ sets to 0 (take held warmup ++ energiesOf finish (take n window) hop values)
+  joined-put to whole last room w l =
+      let most = frames-few finish (length (take n window)) hop low values m in
+      let many = energies-length finish (take n window) hop values in
+      put-on to (take held warmup) (energiesOf finish (take n window) hop values) whole last held (length-take-le held warmup there) (omega arith) w l
+
+-- they are the call's energies, and the values that it uses up
+pub joined-measured : (finish : Bool) (d : VadDetector) (held : ℕ) → held ≡ length (waitingOf d) → (values : List Float)
+    → take held (d .warmup) ++ energiesOf finish (take (d .rules .lengths .«frame_length») (d .window)) (d .rules .lengths .«hop_length») values ≡ measuredFrom finish d values
+unfolding measuredFrom windowOf
+joined-measured finish d held h values = ap (λ (ws : List Float). ws ++ energiesOf finish (windowOf d) (d .rules .lengths .«hop_length») values) (waiting-part d held h)
+
+pub framed-consumed : (finish : Bool) (d : VadDetector) (values : List Float)
+    → framedOf finish (take (d .rules .lengths .«frame_length») (d .window)) (d .rules .lengths .«hop_length») values .consumed ≡ consumedFrom finish d values
+unfolding consumedFrom windowOf
+framed-consumed finish d values = refl
+
+module _ (finish : Bool) (d : VadDetector) (s : Sound d) where
+  pub measured-few : (values : List Float) → length values ≤ 3072 → length (measuredFrom finish d values) ≤ 1024
+  unfolding measuredFrom
+  measured-few values m =
+      let hop = d .rules .lengths .«hop_length» in
+      let most = frames-few finish (length (windowOf d)) hop (hop-low d s) values m in
+      omega (arith, joined-length finish (waitingOf d) (windowOf d) hop values, waiting-few d s)
+
 module _ (finish : Bool) (d : VadDetector) (s : Sound d) (long : length (d .window) ≡ 2048) where
   window-length : length (windowOf d) ≡ d .rules .lengths .«frame_length»
   unfolding windowOf
   window-length = let high = frame-high d s in length-take-le (d .rules .lengths .«frame_length») (d .window) (omega arith)
-
-  -- a hop is 8 at least
-  frames-few : (values : List Float) → length values ≤ 3072 → length (framesOf finish (length (windowOf d)) (d .rules .lengths .«hop_length») values) ≤ 384
-  frames-few values m =
-      let low = hop-low d s in
-      let most = frames-below finish (length (windowOf d)) (d .rules .lengths .«hop_length») (omega arith) 8 values (lit≤ tt) low in
-      omega arith
-
-  measured-length : (values : List Float) → length (measuredFrom finish d values) ≡ length (waitingOf d) + length (framesOf finish (length (windowOf d)) (d .rules .lengths .«hop_length») values)
-  unfolding measuredFrom
-  measured-length values =
-      let hop = d .rules .lengths .«hop_length» in
-      length-append (waitingOf d) (energiesOf finish (windowOf d) hop values) ∙ ap (λ (k : ℕ). length (waitingOf d) + k) (energies-length finish (windowOf d) hop values)
-
-  pub measured-few : (values : List Float) → length values ≤ 3072 → length (measuredFrom finish d values) ≤ 1024
-  measured-few values m = omega (arith, measured-length values, frames-few values m, waiting-few d s)
-
-  module _ (values : List Float) (m : length values ≤ 3072) (held : ℕ) (h : held ≡ length (waitingOf d)) where
-    -- what `frame_values` asks
-    pub frames-asked : (whole : List Float) → length whole ≡ 1024 → let n = d .rules .lengths .«frame_length» in let hop = d .rules .lengths .«hop_length» in
-        ((1 ≤ hop) × (hop ≤ n) × (n ≤ length (d .window))) × (length (framesOf finish n hop values) ≤ length (take (length whole - held) (drop held whole)))
-    frames-asked whole e =
-        let few : length (framesOf finish (d .rules .lengths .«frame_length») (d .rules .lengths .«hop_length») values) ≤ 384 = rw (sym window-length) (frames-few values m) in
-        let wait = waiting-few d s in
-        let left = length-drop held whole in
-        let room = length-take (length whole - held) (drop held whole) in
-        let low = hop-low d s in
-        let high = hop-high d s in
-        let most = frame-high d s in
-        ((omega arith, omega arith, omega arith), omega arith)
-
-    module _ (r : Framed) (e : r ≡ framedOf finish (take (d .rules .lengths .«frame_length») (d .window)) (d .rules .lengths .«hop_length») values) where
-      framed-is : r ≡ framedOf finish (windowOf d) (d .rules .lengths .«hop_length») values
-      unfolding windowOf
-      framed-is = e
-
-      pub measured-count : held + r .frames ≡ length (measuredFrom finish d values)
-      unfolding framedOf
-      measured-count = let n = ap (λ (f : Framed). f .frames) framed-is in omega (arith, measured-length values)
-
-      pub measured-used : r .consumed ≡ consumedFrom finish d values
-      unfolding consumedFrom
-      measured-used = ap (λ (f : Framed). f .consumed) framed-is
-
-    -- those held put first, then the new ones
-    pub measured-put : (to whole last : List Float) → length to ≡ 1024 → whole ≡ sets to 0 (take held (d .warmup))
-        → last ≡ sets (take (length whole - held) (drop held whole)) 0 (energiesOf finish (take (d .rules .lengths .«frame_length») (d .window)) (d .rules .lengths .«hop_length») values)
-        → take held whole ++ (last ++ drop (length whole - held) (drop held whole)) ≡ sets to 0 (measuredFrom finish d values)
-    unfolding measuredFrom windowOf
-    measured-put to whole last room w l =
-        let hop = d .rules .lengths .«hop_length» in
-        let es = energiesOf finish (take (d .rules .lengths .«frame_length») (d .window)) hop values in
-        let few = frames-few values m in
-        let wait = waiting-few d s in
-        let many = energies-length finish (take (d .rules .lengths .«frame_length») (d .window)) hop values in
-        put-on to (waitingOf d) es whole last held (sym h) (omega arith) (w ∙ ap (sets to 0) (waiting-part d held h)) l
 
   -- what stays fits its array
   pub carry-few : (xs : List Float) → length (carryAfter finish d xs) ≤ 2048
@@ -327,7 +328,7 @@ module _ (finish : Bool) (d : VadDetector) (s : Sound d) (xs : List Float) (most
       frames-fit =
           let few = total-few d s (length xs) most in
           let n = length-take (d .«carry_len» + length xs - 0) values in
-          let m = measured-few finish d s wide (take (d .«carry_len» + length xs - 0) values) (omega arith) in
+          let m = measured-few finish d s (take (d .«carry_len» + length xs - 0) values) (omega arith) in
           omega arith
 
       energies-back : take (frames - 0) energies ≡ measuredOf finish d xs

@@ -2,14 +2,14 @@
 ghost use mathlib.Core.Path.{_≡_};
 ghost use mathlib.Core.Bool.{true, cond};
 ghost use Prim.Native.Nat.{_+_, _≤_, _^_};
-ghost use mathlib.Core.List.{[]};
+ghost use mathlib.Core.List.{[], _++_};
 ghost use lib.ListN.{length, take};
 ghost use lib.Seq.{sets};
-ghost use Rattle.vad_frames.specs.Emphasis.{lastOf};
+ghost use Rattle.vad_frames.specs.Emphasis.{emphasized, lastOf};
 ghost use Rattle.vad_frames.specs.Grid.{framesOf, energiesOf, framedOf};
 ghost use Rattle.vad_segments.specs.Closing.{roomOf, flat};
 ghost use Rattle.vad_state.specs.State.{soundOf};
-ghost use Rattle.vad_call.specs.Calls.{valuesOf, waitingOf, measuredFrom, consumedFrom, holdingWith, dueOf, seededOf, gridStart, verdictOf, rowsDue, advancedOf, refusedBy, acceptedOf, concludedOf, reportedIn, ranOf, writtenOf};
+ghost use Rattle.vad_call.specs.Calls.{waitingOf, holdingWith, dueOf, seededOf, gridStart, verdictOf, rowsDue, advancedOf, refusedBy, acceptedOf, concludedOf, reportedIn, ranOf, writtenOf};
 use vad_frames::Framed;
 use vad_segments::Classified;
 use vad_segments::ROW_FIELDS;
@@ -50,23 +50,20 @@ pub struct Progress {
 }
 
 // The carry, then the block's values; answers the block's last raw sample.
-fn gather(detector: VadDetector, samples: &[f32], values: &mut [f32]) -> f32
-    requires { ⌜ (detector .«carry_len» ≤ 2048) × (detector .«carry_len» + length (now samples) ≤ length (now values)) ⌝ }
-    ensures { λ r. ⌜ r ≡ lastOf (detector .«pre_emphasis_prev») (now (samples .entry)) ⌝ }
-    ensures { λ _. ⌜ now (values .exit) ≡ sets (now (values .entry)) 0 (valuesOf detector (now (samples .entry))) ⌝ }
+fn gather(
+    carry: &[f32],
+    carry_len: usize,
+    coeff: f32,
+    previous: f32,
+    samples: &[f32],
+    values: &mut [f32],
+) -> f32
+    requires { ⌜ («carry_len» ≤ length (now carry)) × («carry_len» + length (now samples) ≤ length (now values)) ⌝ }
+    ensures { λ r. ⌜ r ≡ lastOf previous (now (samples .entry)) ⌝ }
+    ensures { λ _. ⌜ now (values .exit) ≡ sets (now (values .entry)) 0 (take «carry_len» (now (carry .entry)) ++ emphasized coeff previous (now (samples .entry))) ⌝ }
 {
-    let carry_len = detector.carry_len;
-    put_first(values, &detector.carry, carry_len);
-    let coeff = vad_frames::coefficient(
-        detector.rules.config.has_pre_emphasis,
-        detector.rules.config.pre_emphasis,
-    );
-    vad_frames::pre_emphasize(
-        coeff,
-        detector.pre_emphasis_prev,
-        samples,
-        &mut values[carry_len..],
-    )
+    put_first(values, carry, carry_len);
+    vad_frames::pre_emphasize(coeff, previous, samples, &mut values[carry_len..])
 }
 
 // How many frames are held from earlier calls.
@@ -104,21 +101,29 @@ fn frame_values(
 }
 
 // The energies held, then those of the frames in the values; answers how many they are in all, and how many values were used up.
-fn measure(detector: VadDetector, values: &[f32], finish: bool, energies: &mut [f32]) -> Framed
-    requires { ⌜ soundOf detector ≡ true ⌝ }
-    requires { ⌜ (length (now values) ≤ 3072) × (length (now energies) ≡ 1024) ⌝ }
-    ensures { λ r. ⌜ r .frames ≡ length (measuredFrom finish detector (now (values .entry))) ⌝ }
-    ensures { λ r. ⌜ r .consumed ≡ consumedFrom finish detector (now (values .entry)) ⌝ }
-    ensures { λ _. ⌜ now (energies .exit) ≡ sets (now (energies .entry)) 0 (measuredFrom finish detector (now (values .entry))) ⌝ }
+// The window and the warm-up have one lifetime, as two fields of one state that are lent at once.
+fn measure<'a>(
+    window: &'a [f32],
+    frame_length: usize,
+    hop_length: usize,
+    warmup: &'a [f32],
+    held: usize,
+    values: &[f32],
+    finish: bool,
+    energies: &mut [f32],
+) -> Framed
+    requires { ⌜ (8 ≤ «hop_length») × («hop_length» ≤ «frame_length») × («frame_length» ≤ length (now window)) ⌝ }
+    requires { ⌜ (held ≤ 300) × (held ≤ length (now warmup)) × (length (now values) ≤ 3072) × (length (now energies) ≡ 1024) ⌝ }
+    ensures { λ r. ⌜ r .frames ≡ length (take held (now (warmup .entry)) ++ energiesOf finish (take «frame_length» (now (window .entry))) «hop_length» (now (values .entry))) ⌝ }
+    ensures { λ r. ⌜ r .consumed ≡ framedOf finish (take «frame_length» (now (window .entry))) «hop_length» (now (values .entry)) .consumed ⌝ }
+    ensures { λ _. ⌜ now (energies .exit) ≡ sets (now (energies .entry)) 0 (take held (now (warmup .entry)) ++ energiesOf finish (take «frame_length» (now (window .entry))) «hop_length» (now (values .entry))) ⌝ }
 {
-    let frame_length = detector.rules.lengths.frame_length;
-    let held = waiting(detector);
-    put_first(energies, &detector.warmup, held);
+    put_first(energies, warmup, held);
     let framed = frame_values(
         values,
-        &detector.window,
+        window,
         frame_length,
-        detector.rules.lengths.hop_length,
+        hop_length,
         finish,
         &mut energies[held..],
     );
@@ -343,7 +348,7 @@ fn conclude(
     )
 }
 
-// A block heard, or with `finish` the stream's end.
+// A block heard, or with `finish` the stream's end. The arrays of the state are lent here: a callee that took the state and lent them would copy them.
 pub fn run(detector: VadDetector, samples: &[f32], finish: bool, rows: &mut [u64]) -> Detected
     requires { ⌜ soundOf detector ≡ true ⌝ }
     requires { ⌜ (length (now samples) ≤ 1024) × (detector .«processed_samples» + length (now samples) ≤ 2 ^ 40) ⌝ }
@@ -351,10 +356,31 @@ pub fn run(detector: VadDetector, samples: &[f32], finish: bool, rows: &mut [u64
     ensures { λ _. ⌜ now (rows .exit) ≡ writtenOf finish detector (now (samples .entry)) (now (rows .entry)) ⌝ }
 {
     let mut values = [0.0; 3072];
-    let last = gather(detector, samples, &mut values);
+    let coeff = vad_frames::coefficient(
+        detector.rules.config.has_pre_emphasis,
+        detector.rules.config.pre_emphasis,
+    );
+    let last = gather(
+        &detector.carry,
+        detector.carry_len,
+        coeff,
+        detector.pre_emphasis_prev,
+        samples,
+        &mut values,
+    );
     let total = detector.carry_len + samples.len();
     let mut energies = [0.0; 1024];
-    let framed = measure(detector, &values[0..total], finish, &mut energies);
+    let held = waiting(detector);
+    let framed = measure(
+        &detector.window,
+        detector.rules.lengths.frame_length,
+        detector.rules.lengths.hop_length,
+        &detector.warmup,
+        held,
+        &values[0..total],
+        finish,
+        &mut energies,
+    );
     let frames = framed.frames;
     let consumed = framed.consumed;
     let processed_samples = detector.processed_samples + samples.len() as u64;

@@ -205,74 +205,94 @@ fn active_sound(
     }
 }
 
-// The settings, and the carry, which sound settings bound.
-fn kept_sound(detector: VadDetector) -> bool
-    ensures { λ r. ⌜ r ≡ (settingsSound (detector .rules) (detector .window) && carrySound (detector .rules .lengths .«frame_length») (detector .carry) (detector .«carry_len») (detector .«carry_start») (detector .«processed_samples») (detector .«pre_emphasis_prev»)) ⌝ }
+// The settings, and the carry, which sound settings bound. The arrays have one lifetime, as two fields of one state that are lent at once.
+fn kept_sound<'a>(
+    rules: Rules,
+    window: &'a [f32],
+    carry: &'a [f32],
+    carry_len: usize,
+    carry_start: u64,
+    received: u64,
+    last: f32,
+) -> bool
+    requires { ⌜ (length (now window) ≡ 2048) × (length (now carry) ≡ 2048) ⌝ }
+    ensures { λ r. ⌜ r ≡ (settingsSound rules (now (window .entry)) && carrySound (rules .lengths .«frame_length») (now (carry .entry)) «carry_len» «carry_start» received last) ⌝ }
 {
-    let rules = detector.rules;
-    if !settings_sound(rules, &detector.window) {
+    if !settings_sound(rules, window) {
         return false;
     }
     carry_sound(
-        detector.rules.lengths.frame_length,
-        &detector.carry,
-        detector.carry_len,
-        detector.carry_start,
-        detector.processed_samples,
-        detector.pre_emphasis_prev,
+        rules.lengths.frame_length,
+        carry,
+        carry_len,
+        carry_start,
+        received,
+        last,
     )
 }
 
 // What was heard, and the segment that is open.
-fn heard_sound(detector: VadDetector) -> bool
-    ensures { λ r. ⌜ r ≡ (trackSound (detector .rules .config .«energy_floor») (detector .«processed_samples») (detector .track) && activeSound (detector .rules .config .«hangover_frames») (detector .«processed_samples») (detector .track .«last_segment_end») (detector .track .«active_segment»)) ⌝ }
+fn heard_sound(rules: Rules, received: u64, track: Track) -> bool
+    ensures { λ r. ⌜ r ≡ (trackSound (rules .config .«energy_floor») received track && activeSound (rules .config .«hangover_frames») received (track .«last_segment_end») (track .«active_segment»)) ⌝ }
 {
-    let track = detector.track;
-    if !track_sound(
-        detector.rules.config.energy_floor,
-        detector.processed_samples,
-        track,
-    ) {
+    if !track_sound(rules.config.energy_floor, received, track) {
         return false;
     }
     let active = track.active_segment;
     active_sound(
-        detector.rules.config.hangover_frames,
-        detector.processed_samples,
-        detector.track.last_segment_end,
+        rules.config.hangover_frames,
+        received,
+        track.last_segment_end,
         active,
     )
 }
 
 // The frames held back: nothing is asked of them after the warm-up.
-fn warmup_sound(detector: VadDetector) -> bool
-    requires { ⌜ (detector .rules .lengths .«warmup_frames» ≤ 300) × (detector .rules .lengths .«hop_length» ≤ 2048) ⌝ }
-    ensures { λ r. ⌜ r ≡ (not (detector .warming) || heldSound (detector .rules .lengths) (detector .warmup) (detector .held) (detector .«carry_start») (detector .track .«active_segment»)) ⌝ }
+fn warmup_sound(
+    warming: bool,
+    rules: Rules,
+    warmup: &[f32],
+    held: usize,
+    carry_start: u64,
+    track: Track,
+) -> bool
+    requires { ⌜ (rules .lengths .«warmup_frames» ≤ 300) × (rules .lengths .«hop_length» ≤ 2048) × (length (now warmup) ≡ 300) ⌝ }
+    ensures { λ r. ⌜ r ≡ (not warming || heldSound (rules .lengths) (now (warmup .entry)) held «carry_start» (track .«active_segment»)) ⌝ }
 {
-    if !detector.warming {
+    if !warming {
         return true;
     }
-    let rules = detector.rules;
     let lengths = rules.lengths;
-    let track = detector.track;
     let active = track.active_segment;
-    held_sound(
-        lengths,
-        &detector.warmup,
-        detector.held,
-        detector.carry_start,
-        active,
-    )
+    held_sound(lengths, warmup, held, carry_start, active)
 }
 
+// The arrays of the state are lent here: a callee that took the state and lent them would copy them.
 pub fn sound(detector: VadDetector) -> bool
     ensures { λ r. ⌜ r ≡ soundOf detector ⌝ }
 {
-    if !kept_sound(detector) {
+    let rules = detector.rules;
+    if !kept_sound(
+        rules,
+        &detector.window,
+        &detector.carry,
+        detector.carry_len,
+        detector.carry_start,
+        detector.processed_samples,
+        detector.pre_emphasis_prev,
+    ) {
         return false;
     }
-    if !heard_sound(detector) {
+    let track = detector.track;
+    if !heard_sound(rules, detector.processed_samples, track) {
         return false;
     }
-    warmup_sound(detector)
+    warmup_sound(
+        detector.warming,
+        rules,
+        &detector.warmup,
+        detector.held,
+        detector.carry_start,
+        track,
+    )
 }

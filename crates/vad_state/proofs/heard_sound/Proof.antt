@@ -7,7 +7,7 @@ use borrow.Author.Needs.{needs}
 use Rattle.vad_state.proofs.heard_sound.Statement.{statement}
 use Rattle.vad_state.proofs.heard_sound.Tie as tie
 
-tracked : (k : tie.Else1) → let d = k .before .before .before .args .detector in trackSound (d .rules .config .«energy_floor») (d .«processed_samples») (d .track) ≡ true
+tracked : (k : tie.Else1) → let a = k .before .before .args in trackSound (a .rules .config .«energy_floor») (a .received) (a .track) ≡ true
 tracked k = sym (k .before .track-sound .ensures) ∙ not-false _ (k .if1 .left)
 
 track-sound-requires : tie.Need-track-sound-requires
