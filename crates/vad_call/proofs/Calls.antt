@@ -235,16 +235,12 @@ pub needed-due : (finish : Bool) (d : VadDetector) (received : ℕ) (due : List 
     → n ≡ length (rowsDue finish d received due)
 needed-due finish d received due c e n g = let more = rows-more finish d received due c e in omega arith
 
--- ---- conclude
+-- ---- judge
 module _ (finish : Bool) (d : VadDetector) (es : List Float) (holds : Bool) (h : holds ≡ holdingWith finish d (length es)) where
   -- the energies are held or judged, all of them
   due-is : (due : List Float) → due ≡ cond holds [] es → due ≡ dueOf finish d es
   unfolding dueOf holdingOf
   due-is due u = u ∙ ap (λ (b : Bool). cond b [] es) h
-
-  kept-is : (kept : List Float) → kept ≡ cond holds es [] → kept ≡ keptOf finish d es
-  unfolding keptOf holdingOf
-  kept-is kept k = k ∙ ap (λ (b : Bool). cond b es []) h
 
   pub due-few : (due : List Float) → due ≡ cond holds [] es → length due ≤ length es
   due-few due u = rw u (go holds)
@@ -269,15 +265,19 @@ module _ (finish : Bool) (d : VadDetector) (es : List Float) (holds : Bool) (h :
     needed-is : n ≡ length (rowsDue finish d (p .«processed_samples») (dueOf finish d es))
     needed-is = needed-due finish d (p .«processed_samples») due c e n g ∙ ap (λ (x : List Float). length (rowsDue finish d (p .«processed_samples») x)) (due-is due u)
 
-    -- 18
-    pub concluded-refused : (carry : List Float) (room : ℕ) → roomOf room < n → refusedBy 18 n d ≡ concludedOf finish d p carry es room
-    unfolding concludedOf tooMany
-    concluded-refused carry room l = rw (← needed-is, lt-ltb (roomOf room) n l)
+    pub judged-needed : n ≡ length (rowsDue finish d (p .«processed_samples») (dueOf finish d es))
+    judged-needed = needed-is
 
-    pub concluded-accepted : (carry : List Float) (room : ℕ) → n ≤ roomOf room → (kept : List Float) → kept ≡ cond holds es [] → (r : Detected) → r ≡ acceptedOf d p holds carry kept c n
-        → r ≡ concludedOf finish d p carry es room
-    unfolding concludedOf tooMany holdingOf
-    concluded-accepted carry room l kept k r a = a ∙ rw (← needed-is, le-ltb (roomOf room) n l, kept-is kept k, e, due-is due u, h)
+    pub judged-verdict : c ≡ verdictOf finish d (p .«processed_samples») (dueOf finish d es)
+    judged-verdict = e ∙ ap (verdictOf finish d (p .«processed_samples»)) (due-is due u)
+
+    pub judged-refused : (room : ℕ) → roomOf room < n → true ≡ tooMany (rowsDue finish d (p .«processed_samples») (dueOf finish d es)) room
+    unfolding tooMany
+    judged-refused room l = rw (← needed-is, lt-ltb (roomOf room) n l)
+
+    pub judged-fits : (room : ℕ) → n ≤ roomOf room → false ≡ tooMany (rowsDue finish d (p .«processed_samples») (dueOf finish d es)) room
+    unfolding tooMany
+    judged-fits room l = rw (← needed-is, le-ltb (roomOf room) n l)
 
     pub reported-refused : (out : List ℕ) → roomOf (length out) < n → out ≡ reportedIn (rowsDue finish d (p .«processed_samples») (dueOf finish d es)) out
     unfolding reportedIn tooMany
@@ -287,6 +287,18 @@ module _ (finish : Bool) (d : VadDetector) (es : List Float) (holds : Bool) (h :
         → last ≡ reportedIn (rowsDue finish d (p .«processed_samples») (dueOf finish d es)) out
     unfolding reportedIn tooMany
     reported-accepted out l last a = a ∙ rw (← needed-is, le-ltb (roomOf (length out)) n l, due-is due u)
+
+-- what was judged, concluded
+module _ (finish : Bool) (d : VadDetector) (es : List Float) (p : Progress) (carry : List Float) (room : ℕ) (refused : Bool) (t : refused ≡ tooMany (rowsDue finish d (p .«processed_samples») (dueOf finish d es)) room)
+    (n : ℕ) (k : n ≡ length (rowsDue finish d (p .«processed_samples») (dueOf finish d es))) where
+  pub refused-concluded : refused ≡ true → (r : Detected) → r ≡ refusedBy 18 n d → r ≡ concludedOf finish d p carry es room
+  unfolding concludedOf
+  refused-concluded on r a = a ∙ rw (sym t ∙ on, k)
+
+  pub accepted-concluded : refused ≡ false → (holds : Bool) → holds ≡ holdingWith finish d (length es) → (kept : List Float) → kept ≡ cond holds es [] → (c : Classified)
+      → c ≡ verdictOf finish d (p .«processed_samples») (dueOf finish d es) → (r : Detected) → r ≡ acceptedOf d p holds carry kept c n → r ≡ concludedOf finish d p carry es room
+  unfolding concludedOf holdingOf keptOf
+  accepted-concluded off holds h kept g c e r a = a ∙ rw (sym t ∙ off, k, e, g, h)
 
 -- ---- run
 -- the carry and the block fit the array of values

@@ -9,7 +9,7 @@ ghost use Rattle.vad_frames.specs.Emphasis.{emphasized, lastOf};
 ghost use Rattle.vad_frames.specs.Grid.{framesOf, energiesOf, framedOf};
 ghost use Rattle.vad_segments.specs.Closing.{roomOf, flat};
 ghost use Rattle.vad_state.specs.State.{soundOf};
-ghost use Rattle.vad_call.specs.Calls.{waitingOf, holdingWith, dueOf, seededOf, gridStart, verdictOf, rowsDue, advancedOf, refusedBy, acceptedOf, concludedOf, reportedIn, ranOf, writtenOf};
+ghost use Rattle.vad_call.specs.Calls.{waitingOf, holdingWith, dueOf, seededOf, gridStart, verdictOf, rowsDue, advancedOf, refusedBy, acceptedOf, tooMany, reportedIn, ranOf, writtenOf};
 use vad_frames::Framed;
 use vad_segments::Classified;
 use vad_segments::ROW_FIELDS;
@@ -308,44 +308,47 @@ pub fn refused(number: u32, carries: usize, detector: VadDetector) -> Detected
     }
 }
 
-// Holds the energies or judges them. 18 is known before a row is written: the rows are counted first.
-fn conclude(
+// What the frames come to: whether they are held, and the rows that they need; 18 is known before a row is written.
+struct Judged {
+    pub refused: bool,
+    pub holds: bool,
+    pub needed: u64,
+    pub classified: Classified,
+}
+
+// Holds the energies or judges them. The state's arrays stand in neither what it reads nor its answer.
+fn judge(
     detector: VadDetector,
-    progress: Progress,
-    carry: &[f32],
+    received: u64,
     energies: &[f32],
     finish: bool,
     rows: &mut [u64],
-) -> Detected
+) -> Judged
     requires { ⌜ soundOf detector ≡ true ⌝ }
-    requires { ⌜ (progress .«processed_samples» ≤ 2 ^ 40) × (length (now carry) ≤ 2048) × (length (now energies) ≤ 1024) ⌝ }
-    ensures { λ r. ⌜ r ≡ concludedOf finish detector progress (now (carry .entry)) (now (energies .entry)) (length (now (rows .entry))) ⌝ }
-    ensures { λ _. ⌜ now (rows .exit) ≡ reportedIn (rowsDue finish detector (progress .«processed_samples») (dueOf finish detector (now (energies .entry)))) (now (rows .entry)) ⌝ }
+    requires { ⌜ (received ≤ 2 ^ 40) × (length (now energies) ≤ 1024) ⌝ }
+    ensures { λ r. ⌜ (r .refused ≡ tooMany (rowsDue finish detector received (dueOf finish detector (now (energies .entry)))) (length (now (rows .entry)))) × (r .holds ≡ holdingWith finish detector (length (now (energies .entry)))) ⌝ }
+    ensures { λ r. ⌜ (r .needed ≡ length (rowsDue finish detector received (dueOf finish detector (now (energies .entry))))) × (r .classified ≡ verdictOf finish detector received (dueOf finish detector (now (energies .entry)))) ⌝ }
+    ensures { λ _. ⌜ now (rows .exit) ≡ reportedIn (rowsDue finish detector received (dueOf finish detector (now (energies .entry)))) (now (rows .entry)) ⌝ }
 {
     let holds = holding(detector, finish, energies.len());
     let due = unless(holds, energies);
-    let classified = verdict(detector, progress.processed_samples, due, finish);
+    let classified = verdict(detector, received, due, finish);
     let needed = classified.track.rows_reported - detector.track.rows_reported;
     if ((rows.len() / ROW_FIELDS) as u64) < needed {
-        return refused(18, needed as usize, detector);
+        return Judged {
+            refused: true,
+            holds,
+            needed,
+            classified,
+        };
     }
-    report(
-        detector,
-        progress.processed_samples,
-        due,
-        finish,
-        needed,
-        rows,
-    );
-    accepted(
-        detector,
-        progress,
+    report(detector, received, due, finish, needed, rows);
+    Judged {
+        refused: false,
         holds,
-        carry,
-        only_if(holds, energies),
+        needed,
         classified,
-        needed as usize,
-    )
+    }
 }
 
 // A block heard, or with `finish` the stream's end. The arrays of the state are lent here: a callee that took the state and lent them would copy them.
@@ -385,16 +388,28 @@ pub fn run(detector: VadDetector, samples: &[f32], finish: bool, rows: &mut [u64
     let consumed = framed.consumed;
     let processed_samples = detector.processed_samples + samples.len() as u64;
     let carry_start = detector.carry_start + consumed as u64;
-    conclude(
+    let judged = judge(
+        detector,
+        processed_samples,
+        &energies[0..frames],
+        finish,
+        rows,
+    );
+    if judged.refused {
+        return refused(18, judged.needed as usize, detector);
+    }
+    let classified = judged.classified;
+    accepted(
         detector,
         Progress {
             processed_samples,
             carry_start,
             pre_emphasis_prev: last,
         },
+        judged.holds,
         &values[consumed..total],
-        &energies[0..frames],
-        finish,
-        rows,
+        only_if(judged.holds, &energies[0..frames]),
+        classified,
+        judged.needed as usize,
     )
 }

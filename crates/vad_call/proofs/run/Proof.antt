@@ -1,15 +1,17 @@
 use mathlib.Core.Path.{_≡_, refl, sym, ap, _∙_}
+use mathlib.Core.Bool.{true, false}
 use mathlib.Core.List.{List}
 use Prim.Native.Nat.{_+_, _-_, _≤_}
 use native.Mathlib.Omega.{arith}
-use lib.ListN.{length, take, replicate, length-take, length-replicate}
+use lib.ListN.{length, take, drop, replicate, length-take, length-replicate}
 use lib.Ieee.{Float}
 use lib.Seq.{sets}
 use Rattle.lists.specs.Every.{length-map}
 use Rattle.vad_config.specs.Domain.{zero32}
 use Rattle.vad_state.proofs.Parts.{Sound, parts, frame-high, hop-low, hop-high}
 use Rattle.vad_call.specs.Calls.{valuesOf, measuredFrom, consumedFrom}
-use Rattle.vad_call.proofs.Calls.{gathered-values, waiting-few, joined-measured, framed-consumed, total-few, consumed-few, carry-fits, frames-fit, ran-is, written-is}
+use Rattle.vad_call.proofs.Calls.{gathered-values, waiting-few, joined-measured, framed-consumed, total-few, consumed-few, carry-fits, kept-few, frames-fit, refused-concluded, accepted-concluded, ran-is, written-is}
+use Rattle.vad_call.specs.declared.Progress.{Progress}
 use borrow.Author.Needs.{needs}
 use Rattle.vad_call.proofs.run.Statement.{statement}
 use Rattle.vad_call.proofs.run.Tie as tie
@@ -154,52 +156,29 @@ add-carry-start c =
     let received = sound s .received in
     search needs
 
-mul-conclude : tie.Need-mul-conclude
-mul-conclude c =
-    let m = c .before in
-    let used = used-up m in
-    let total = total-fits (m .before .before .before .before .before .before .before .before .before .before .before .before .before .before .before .before .before .before .before) in
-    search needs
+sub-judge : tie.Need-sub-judge
+sub-judge c = search needs
 
-sub-conclude : tie.Need-sub-conclude
-sub-conclude c =
-    used-up (c .before)
+part-judge-start : tie.Need-part-judge-start
+part-judge-start c = search needs
 
-part-conclude-start : tie.Need-part-conclude-start
-part-conclude-start c =
-    let used = used-up (c .before .before) in
-    search needs
-
-part-conclude-end : tie.Need-part-conclude-end
-part-conclude-end c =
+part-judge-end : tie.Need-part-judge-end
+part-judge-end c =
     let m = c .before .before in
-    let used = used-up m in
-    let total = total-fits (m .before .before .before .before .before .before .before .before .before .before .before .before .before .before .before .before .before .before .before) in
-    let long = values-long (m .before .before .before .before .before .before .before .before .before .before .before) in
-    search needs
-
-sub-conclude-2 : tie.Need-sub-conclude-2
-sub-conclude-2 c = search needs
-
-part-conclude-start-2 : tie.Need-part-conclude-start-2
-part-conclude-start-2 c = search needs
-
-part-conclude-end-2 : tie.Need-part-conclude-end-2
-part-conclude-end-2 c =
-    let m = c .before .before .before .before in
     let count = counted m in
     let long = energies-long m in
     search needs
 
-conclude-requires : tie.Need-conclude-requires
-unfolding blank
-conclude-requires c κs =
-    let m = c .before .before .before .before .before .before in
-    let g = m .before .before .before .before .before .before .before .before .before .before .before in
-    let s = g .before .before .before .before .before .before .before .before in
+judge-requires : tie.Need-judge-requires
+judge-requires c κs =
+    let m = c .before .before .before .before in
+    let s = m .before .before .before .before .before .before .before .before .before .before .before .before .before .before .before .before .before .before .before in
     let few = length-take (m .measure .result .frames - 0) (m .measure .last .1 .1 .1 .1 .1 .1 .1 .0) in
     let long = energies-long m in
-    (s .pre .0, (s .pre .1 .1, carry-fits (s .args .finish) (s .args .t1) (sound s) (s .args .samples .now) (s .pre .1 .0) (window-long s) (carry-long s) blank (g .gather .last .1 .1 .1 .1 .1 .0) (length-replicate 3072 zero32) (values-are g) (m .measure .result .consumed) (consumed-is m), omega arith))
+    (s .pre .0, (s .pre .1 .1, omega arith))
+
+refused-requires : tie.Need-refused-requires
+refused-requires c κs = search needs
 
 same-length : tie.Need-same-length
 same-length c = search needs
@@ -210,9 +189,80 @@ returns c =
     let m = c .before .before .before .before .before .before .before .before .before in
     let g = m .before .before .before .before .before .before .before .before .before .before .before in
     let s = g .before .before .before .before .before .before .before .before in
-    let end = c .before .before .conclude in (
-      ran-is (s .args .finish) (s .args .t1) (sound s) (s .args .samples .now) (s .pre .1 .0) (window-long s) (carry-long s) blank (g .gather .last .1 .1 .1 .1 .1 .0) (length-replicate 3072 zero32) (values-are g) (m .measure .result .consumed) (consumed-is m) none (m .measure .last .1 .1 .1 .1 .1 .1 .1 .0) (length-replicate 1024 zero32) (energies-are m) (m .measure .result .frames) (frames-are m) (g .gather .result) (g .gather .ensures .0) (length (s .args .rows .now)) (end .result) _ (end .ensures .0) refl,
-      written-is (s .args .finish) (s .args .t1) (sound s) (s .args .samples .now) (s .pre .1 .0) (window-long s) (carry-long s) blank (g .gather .last .1 .1 .1 .1 .1 .0) (length-replicate 3072 zero32) (values-are g) (m .measure .result .consumed) (consumed-is m) none (m .measure .last .1 .1 .1 .1 .1 .1 .1 .0) (length-replicate 1024 zero32) (energies-are m) (m .measure .result .frames) (frames-are m) (s .args .rows .now) (end .last .1 .1 .1 .1 .1 .0) (end .ensures .1),
+    let d = s .args .t1 in
+    let p : Progress = record { «processed_samples» = d .«processed_samples» + length (s .args .samples .now); «carry_start» = d .«carry_start» + m .measure .result .consumed; «pre_emphasis_prev» = g .gather .result } in
+    let j = c .before .before .before .before .judge in
+    let on : j .result .refused ≡ true = c .before .if1 .taken in (
+      ran-is (s .args .finish) (s .args .t1) (sound s) (s .args .samples .now) (s .pre .1 .0) (window-long s) (carry-long s) blank (g .gather .last .1 .1 .1 .1 .1 .0) (length-replicate 3072 zero32) (values-are g) (m .measure .result .consumed) (consumed-is m) none (m .measure .last .1 .1 .1 .1 .1 .1 .1 .0) (length-replicate 1024 zero32) (energies-are m) (m .measure .result .frames) (frames-are m) (g .gather .result) (g .gather .ensures .0) (length (s .args .rows .now)) (c .refused .result) p (refused-concluded (s .args .finish) d (take (m .measure .result .frames - 0) (m .measure .last .1 .1 .1 .1 .1 .1 .1 .0)) p (take (d .«carry_len» + length (s .args .samples .now) - m .measure .result .consumed) (drop (m .measure .result .consumed) (g .gather .last .1 .1 .1 .1 .1 .0))) (length (s .args .rows .now)) (j .result .refused) (j .ensures .0 .0) (j .result .needed) (j .ensures .1 .0 .0) on (c .refused .result) (c .refused .ensures)) refl,
+      written-is (s .args .finish) (s .args .t1) (sound s) (s .args .samples .now) (s .pre .1 .0) (window-long s) (carry-long s) blank (g .gather .last .1 .1 .1 .1 .1 .0) (length-replicate 3072 zero32) (values-are g) (m .measure .result .consumed) (consumed-is m) none (m .measure .last .1 .1 .1 .1 .1 .1 .1 .0) (length-replicate 1024 zero32) (energies-are m) (m .measure .result .frames) (frames-are m) (s .args .rows .now) (j .last .1 .1 .1 .1 .0) (j .ensures .1 .1),
+    )
+
+mul-accepted : tie.Need-mul-accepted
+mul-accepted c =
+    let m = c .before .before .before .before .before .before .before .before .before in
+    let used = used-up m in
+    let total = total-fits (m .before .before .before .before .before .before .before .before .before .before .before .before .before .before .before .before .before .before .before) in
+    search needs
+
+sub-accepted : tie.Need-sub-accepted
+sub-accepted c =
+    used-up (c .before .before .before .before .before .before .before .before .before)
+
+part-accepted-start : tie.Need-part-accepted-start
+part-accepted-start c =
+    let used = used-up (c .before .before .before .before .before .before .before .before .before .before) in
+    search needs
+
+part-accepted-end : tie.Need-part-accepted-end
+part-accepted-end c =
+    let m = c .before .before .before .before .before .before .before .before .before .before in
+    let used = used-up m in
+    let total = total-fits (m .before .before .before .before .before .before .before .before .before .before .before .before .before .before .before .before .before .before .before) in
+    let long = values-long (m .before .before .before .before .before .before .before .before .before .before .before) in
+    search needs
+
+sub-only-if : tie.Need-sub-only-if
+sub-only-if c = search needs
+
+part-only-if-start : tie.Need-part-only-if-start
+part-only-if-start c = search needs
+
+part-only-if-end : tie.Need-part-only-if-end
+part-only-if-end c =
+    let m = c .before .before .before .before .before .before .before .before .before .before .before .before in
+    let count = counted m in
+    let long = energies-long m in
+    search needs
+
+only-if-requires : tie.Need-only-if-requires
+only-if-requires c κs = search needs
+
+accepted-requires : tie.Need-accepted-requires
+unfolding blank
+accepted-requires c κs =
+    let m = c .before .before .before .before .before .before .before .before .before .before .before .before .before .before in
+    let g = m .before .before .before .before .before .before .before .before .before .before .before in
+    let s = g .before .before .before .before .before .before .before .before in
+    let d = s .args .t1 in
+    let j = c .before .before .before .before .before .before .before .before .before .judge in
+    (frame-high d (sound s), (carry-fits (s .args .finish) (s .args .t1) (sound s) (s .args .samples .now) (s .pre .1 .0) (window-long s) (carry-long s) blank (g .gather .last .1 .1 .1 .1 .1 .0) (length-replicate 3072 zero32) (values-are g) (m .measure .result .consumed) (consumed-is m), kept-few (s .args .finish) d (take (m .measure .result .frames - 0) (m .measure .last .1 .1 .1 .1 .1 .1 .1 .0)) (j .result .holds) (j .ensures .0 .1) (sound s) (c .only-if .result .now) (c .only-if .ensures)))
+
+same-length-2 : tie.Need-same-length-2
+same-length-2 c = search needs
+
+returns-2 : tie.Need-returns-2
+unfolding blank none
+returns-2 c =
+    let m = c .before .before .before .before .before .before .before .before .before .before .before .before .before .before .before in
+    let g = m .before .before .before .before .before .before .before .before .before .before .before in
+    let s = g .before .before .before .before .before .before .before .before in
+    let d = s .args .t1 in
+    let p : Progress = record { «processed_samples» = d .«processed_samples» + length (s .args .samples .now); «carry_start» = d .«carry_start» + m .measure .result .consumed; «pre_emphasis_prev» = g .gather .result } in
+    let j = c .before .before .before .before .before .before .before .before .before .before .judge in
+    let off : j .result .refused ≡ false = c .before .before .before .before .before .before .before .if1 .left in
+    let kept = c .before .only-if in (
+      ran-is (s .args .finish) (s .args .t1) (sound s) (s .args .samples .now) (s .pre .1 .0) (window-long s) (carry-long s) blank (g .gather .last .1 .1 .1 .1 .1 .0) (length-replicate 3072 zero32) (values-are g) (m .measure .result .consumed) (consumed-is m) none (m .measure .last .1 .1 .1 .1 .1 .1 .1 .0) (length-replicate 1024 zero32) (energies-are m) (m .measure .result .frames) (frames-are m) (g .gather .result) (g .gather .ensures .0) (length (s .args .rows .now)) (c .accepted .result) p (accepted-concluded (s .args .finish) d (take (m .measure .result .frames - 0) (m .measure .last .1 .1 .1 .1 .1 .1 .1 .0)) p (take (d .«carry_len» + length (s .args .samples .now) - m .measure .result .consumed) (drop (m .measure .result .consumed) (g .gather .last .1 .1 .1 .1 .1 .0))) (length (s .args .rows .now)) (j .result .refused) (j .ensures .0 .0) (j .result .needed) (j .ensures .1 .0 .0) off (j .result .holds) (j .ensures .0 .1) (kept .result .now) (kept .ensures) (j .result .classified) (j .ensures .1 .0 .1) (c .accepted .result) (c .accepted .ensures)) refl,
+      written-is (s .args .finish) (s .args .t1) (sound s) (s .args .samples .now) (s .pre .1 .0) (window-long s) (carry-long s) blank (g .gather .last .1 .1 .1 .1 .1 .0) (length-replicate 3072 zero32) (values-are g) (m .measure .result .consumed) (consumed-is m) none (m .measure .last .1 .1 .1 .1 .1 .1 .1 .0) (length-replicate 1024 zero32) (energies-are m) (m .measure .result .frames) (frames-are m) (s .args .rows .now) (j .last .1 .1 .1 .1 .0) (j .ensures .1 .1),
     )
 
 pub run-spec : {M : Type 1} → statement M
@@ -231,13 +281,21 @@ run-spec =
     measure-requires
     add-processed-samples
     add-carry-start
-    mul-conclude
-    sub-conclude
-    part-conclude-start
-    part-conclude-end
-    sub-conclude-2
-    part-conclude-start-2
-    part-conclude-end-2
-    conclude-requires
+    sub-judge
+    part-judge-start
+    part-judge-end
+    judge-requires
+    refused-requires
     same-length
-    returns)
+    returns
+    mul-accepted
+    sub-accepted
+    part-accepted-start
+    part-accepted-end
+    sub-only-if
+    part-only-if-start
+    part-only-if-end
+    only-if-requires
+    accepted-requires
+    same-length-2
+    returns-2)
