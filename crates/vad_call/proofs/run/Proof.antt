@@ -257,11 +257,10 @@ returns-2 c =
     let g = m .before .before .before .before .before .before .before .before .before .before .before in
     let s = g .before .before .before .before .before .before .before .before in
     let d = s .args .t1 in
-    let p : Progress = record { «processed_samples» = d .«processed_samples» + length (s .args .samples .now); «carry_start» = d .«carry_start» + m .measure .result .consumed; «pre_emphasis_prev» = g .gather .result } in
     let j = c .before .before .before .before .before .before .before .before .before .before .judge in
     let off : j .result .refused ≡ false = c .before .before .before .before .before .before .before .if1 .left in
     let kept = c .before .only-if in (
-      ran-is (s .args .finish) (s .args .t1) (sound s) (s .args .samples .now) (s .pre .1 .0) (window-long s) (carry-long s) blank (g .gather .last .1 .1 .1 .1 .1 .0) (length-replicate 3072 zero32) (values-are g) (m .measure .result .consumed) (consumed-is m) none (m .measure .last .1 .1 .1 .1 .1 .1 .1 .0) (length-replicate 1024 zero32) (energies-are m) (m .measure .result .frames) (frames-are m) (g .gather .result) (g .gather .ensures .0) (length (s .args .rows .now)) (c .accepted .result) p (accepted-concluded (s .args .finish) d (take (m .measure .result .frames - 0) (m .measure .last .1 .1 .1 .1 .1 .1 .1 .0)) p (take (d .«carry_len» + length (s .args .samples .now) - m .measure .result .consumed) (drop (m .measure .result .consumed) (g .gather .last .1 .1 .1 .1 .1 .0))) (length (s .args .rows .now)) (j .result .refused) (j .ensures .0 .0) (j .result .needed) (j .ensures .1 .0 .0) off (j .result .holds) (j .ensures .0 .1) (kept .result .now) (kept .ensures) (j .result .classified) (j .ensures .1 .0 .1) (c .accepted .result) (c .accepted .ensures)) refl,
+      ran-is (s .args .finish) (s .args .t1) (sound s) (s .args .samples .now) (s .pre .1 .0) (window-long s) (carry-long s) blank (g .gather .last .1 .1 .1 .1 .1 .0) (length-replicate 3072 zero32) (values-are g) (m .measure .result .consumed) (consumed-is m) none (m .measure .last .1 .1 .1 .1 .1 .1 .1 .0) (length-replicate 1024 zero32) (energies-are m) (m .measure .result .frames) (frames-are m) (g .gather .result) (g .gather .ensures .0) (length (s .args .rows .now)) (c .accepted .result) _ (accepted-concluded (s .args .finish) d (take (m .measure .result .frames - 0) (m .measure .last .1 .1 .1 .1 .1 .1 .1 .0)) _ (take (d .«carry_len» + length (s .args .samples .now) - m .measure .result .consumed) (drop (m .measure .result .consumed) (g .gather .last .1 .1 .1 .1 .1 .0))) (length (s .args .rows .now)) (j .result .refused) (j .ensures .0 .0) (j .result .needed) (j .ensures .1 .0 .0) off (j .result .holds) (j .ensures .0 .1) (kept .result .now) (kept .ensures) (j .result .classified) (j .ensures .1 .0 .1) (c .accepted .result) (c .accepted .ensures)) refl,
       written-is (s .args .finish) (s .args .t1) (sound s) (s .args .samples .now) (s .pre .1 .0) (window-long s) (carry-long s) blank (g .gather .last .1 .1 .1 .1 .1 .0) (length-replicate 3072 zero32) (values-are g) (m .measure .result .consumed) (consumed-is m) none (m .measure .last .1 .1 .1 .1 .1 .1 .1 .0) (length-replicate 1024 zero32) (energies-are m) (m .measure .result .frames) (frames-are m) (s .args .rows .now) (j .last .1 .1 .1 .1 .0) (j .ensures .1 .1),
     )
 
