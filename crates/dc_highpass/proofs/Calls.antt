@@ -12,9 +12,9 @@ use lib.Seq.{sets}
 use lib.Ieee.{Float}
 use lib.Ieee.Scale.{finite}
 use Rattle.ranges.specs.Ranges.{cleanOf}
-use Rattle.dc_highpass.specs.Settings.{zero, soundOf}
+use Rattle.dc_state.specs.Settings.{zero, soundOf}
+use Rattle.dc_state.specs.declared.DcHighPassFilter.{DcHighPassFilter}
 use Rattle.dc_highpass.specs.Filter.{biasedOf, passOf, resultsOf, afterOf, refused, checkOf, ranOf, processOf, writtenOf, outputAfter}
-use Rattle.dc_highpass.specs.declared.DcHighPassFilter.{DcHighPassFilter}
 use Rattle.dc_highpass.specs.declared.VadContext.{VadContext}
 use Rattle.dc_highpass.specs.declared.Refusal.{Refusal}
 use Rattle.dc_highpass.specs.declared.Processed.{Processed}

@@ -1,4 +1,3 @@
-pub mod Tests
 pub mod Turns
 pub mod Calls
 pub mod Finite

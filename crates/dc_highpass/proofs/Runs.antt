@@ -10,50 +10,21 @@ use lib.ListN.{length, getD}
 use lib.Ieee.{Float, binary32, ofBits, sub}
 use lib.Ieee.Scale.{finite}
 use Rattle.ranges.specs.Ranges.{cleanOf}
-use Rattle.ranges.proofs.Laws.{both}
-use Rattle.dc_highpass.specs.Biquad.{nextOf}
-use Rattle.dc_highpass.specs.Settings.{refusalOf, remembersFinite, soundOf}
-use Rattle.dc_highpass.specs.Filter.{coefficientsOf, refused, freshOf, nothingOpen, openOf, listens, biasOf, biasedOf, centredOf, heard, stagedBy, passOf, resultsOf, afterOf, checkOf, ranOf, processOf, resetOf}
+use Rattle.dc_state.specs.Biquad.{heard}
+use Rattle.dc_state.specs.Settings.{refusalOf, remembersFinite, soundOf}
+use Rattle.dc_state.specs.Operations.{centredOf}
+use Rattle.dc_state.specs.declared.biquad.BiquadCoefficients.{BiquadCoefficients}
+use Rattle.dc_state.specs.declared.HighpassOrder.{HighpassOrder}
+use Rattle.dc_state.specs.declared.HighpassOrder.the-variants.{SecondOrder, FourthOrder}
+use Rattle.dc_state.specs.declared.PreprocessingConfig.{PreprocessingConfig}
+use Rattle.dc_state.specs.declared.DcHighPassFilter.{DcHighPassFilter}
+use Rattle.dc_state.proofs.Finite.{sub-finite, stage-passes}
+use Rattle.dc_state.proofs.Parts.{Parts, parts, whole, stepped-finite}
+use Rattle.dc_highpass.specs.Filter.{coefficientsOf, refused, freshOf, nothingOpen, openOf, listens, biasOf, biasedOf, stagedBy, passOf, resultsOf, afterOf, checkOf, ranOf, processOf, resetOf}
 use Rattle.dc_highpass.specs.Run.{Call, Block, Reset, next, numberOf, play}
-use Rattle.dc_highpass.specs.declared.biquad.Biquad.{Biquad}
-use Rattle.dc_highpass.specs.declared.biquad.BiquadCoefficients.{BiquadCoefficients}
-use Rattle.dc_highpass.specs.declared.HighpassOrder.{HighpassOrder}
-use Rattle.dc_highpass.specs.declared.HighpassOrder.the-variants.{SecondOrder, FourthOrder}
 use Rattle.dc_highpass.specs.declared.VadContext.{VadContext}
-use Rattle.dc_highpass.specs.declared.PreprocessingConfig.{PreprocessingConfig}
-use Rattle.dc_highpass.specs.declared.DcHighPassFilter.{DcHighPassFilter}
 use Rattle.dc_highpass.specs.declared.Processed.{Processed}
 use Rattle.dc_highpass.specs.declared.Opened.{Opened}
-use Rattle.dc_highpass.proofs.Finite.{sub-finite, stage-passes}
-
--- ---- the parts of a sound state
-record Parts (f : DcHighPassFilter) : Type 0 where
-  pub settings : eqb (refusalOf (f .config) (f .first .coeffs) (f .second .coeffs)) 0 ≡ true
-  pub bias : finite (f .«dc_bias») ≡ true
-  pub first : remembersFinite (f .first .state) ≡ true
-  pub second : remembersFinite (f .second .state) ≡ true
-
-parts : (f : DcHighPassFilter) → soundOf f ≡ true → Parts f
-unfolding soundOf
-parts f h =
-    let settings = eqb (refusalOf (f .config) (f .first .coeffs) (f .second .coeffs)) 0 in
-    let t = both (settings && finite (f .«dc_bias») && remembersFinite (f .first .state)) (remembersFinite (f .second .state)) h in
-    let u = both (settings && finite (f .«dc_bias»)) (remembersFinite (f .first .state)) (t .0) in
-    let v = both settings (finite (f .«dc_bias»)) (u .0) in
-    record { settings = v .0; bias = v .1; first = u .1; second = t .1 }
-
-whole : (f : DcHighPassFilter) → Parts f → soundOf f ≡ true
-unfolding soundOf
-whole f p = rw (p .settings, p .bias, p .first, p .second)
-
--- a stage that heard a finite output remembers finite numbers
-stepped-finite : (b : Biquad) (x : Float) → remembersFinite (b .state) ≡ true → finite (heard b x) ≡ true → remembersFinite (nextOf (b .coeffs) (b .state) x) ≡ true
-unfolding remembersFinite nextOf
-stepped-finite b x r h =
-    let s = b .state in
-    let t = both (finite (s .x1) && finite (s .x2) && finite (s .y1)) (finite (s .y2)) r in
-    let u = both (finite (s .x1) && finite (s .x2)) (finite (s .y1)) (t .0) in
-    rw (stage-passes b x h .input, both (finite (s .x1)) (finite (s .x2)) (u .0) .0, h, u .1)
 
 -- ---- one sample
 staged-sound : (o : HighpassOrder) (f : DcHighPassFilter) (c : Float) → Parts f → finite (stagedBy o f c .output) ≡ true → Parts (stagedBy o f c .filter)

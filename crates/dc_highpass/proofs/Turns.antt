@@ -9,11 +9,11 @@ use lib.ListN.{length, drop, getD, drop-of-length-le}
 use lib.Seq.{drop-cons}
 use lib.Ieee.{Float, nan, binary32, add}
 use lib.Ieee.Scale.{finite}
+use Rattle.dc_state.specs.declared.DcHighPassFilter.{DcHighPassFilter}
+use Rattle.dc_state.specs.declared.PreprocessingConfig.{PreprocessingConfig}
+use Rattle.dc_state.specs.Settings.{refusalOf}
 use Rattle.dc_highpass.specs.Filter.{coefficientsOf, freshOf, nothingOpen, openOf, isEmpty, listens, biasOf, biasedOf, sumFrom, passOf, resultsOf, afterOf}
-use Rattle.dc_highpass.specs.declared.DcHighPassFilter.{DcHighPassFilter}
-use Rattle.dc_highpass.specs.declared.PreprocessingConfig.{PreprocessingConfig}
 use Rattle.dc_highpass.specs.declared.VadContext.{VadContext}
-use Rattle.dc_highpass.specs.Settings.{refusalOf}
 use borrow.Author.Tests.{ne-eqb}
 
 pub sum-end : (t : Float) (i : ℕ) (xs : List Float) → length xs ≤ i → sumFrom t (drop i xs) ≡ t

@@ -9,17 +9,18 @@ use lib.Ieee.{Float, nan, binary32, ofInt, add, sub, mul, div, neg}
 use lib.Ieee.Scale.{finite}
 use Rattle.float.specs.Fused.{fusedOf}
 use Rattle.ranges.specs.Ranges.{cleanOf}
-use Rattle.dc_highpass.specs.Biquad.{orNan, outputOf, nextOf}
-use Rattle.dc_highpass.specs.Settings.{zero, one, refusalOf, soundOf}
-use Rattle.dc_highpass.specs.declared.biquad.Biquad.{Biquad}
-use Rattle.dc_highpass.specs.declared.biquad.BiquadCoefficients.{BiquadCoefficients}
-use Rattle.dc_highpass.specs.declared.biquad.BiquadState.{BiquadState}
-use Rattle.dc_highpass.specs.declared.HighpassOrder.{HighpassOrder}
-use Rattle.dc_highpass.specs.declared.HighpassOrder.the-variants.{SecondOrder, FourthOrder}
+use Rattle.dc_state.specs.Biquad.{orNan, stepped, heard}
+use Rattle.dc_state.specs.Settings.{zero, one, refusalOf, soundOf}
+use Rattle.dc_state.specs.Operations.{centredOf}
+use Rattle.dc_state.specs.declared.biquad.Biquad.{Biquad}
+use Rattle.dc_state.specs.declared.biquad.BiquadCoefficients.{BiquadCoefficients}
+use Rattle.dc_state.specs.declared.biquad.BiquadState.{BiquadState}
+use Rattle.dc_state.specs.declared.HighpassOrder.{HighpassOrder}
+use Rattle.dc_state.specs.declared.HighpassOrder.the-variants.{SecondOrder, FourthOrder}
+use Rattle.dc_state.specs.declared.PreprocessingConfig.{PreprocessingConfig}
+use Rattle.dc_state.specs.declared.DcHighPassFilter.{DcHighPassFilter}
 use Rattle.dc_highpass.specs.declared.VadContext.{VadContext}
 use Rattle.dc_highpass.specs.declared.VadContext.the-variants.{Unlabelled, Silence, Speech}
-use Rattle.dc_highpass.specs.declared.PreprocessingConfig.{PreprocessingConfig}
-use Rattle.dc_highpass.specs.declared.DcHighPassFilter.{DcHighPassFilter}
 use Rattle.dc_highpass.specs.declared.Refusal.{Refusal}
 use Rattle.dc_highpass.specs.declared.Opened.{Opened}
 use Rattle.dc_highpass.specs.declared.Processed.{Processed}
@@ -93,16 +94,6 @@ biasedOf f xs label =
     record { config = f .config; first = f .first; second = f .second; «dc_bias» = biasOf (f .config .«dc_bias_alpha») (f .«dc_bias») xs }
     f
 
--- 'A sample has the bias subtracted if removal is on'
-unfoldable pub centredOf : DcHighPassFilter → Float → Float
-centredOf f x = cond (f .config .«enable_dc_removal») (sub binary32 x (f .«dc_bias»)) x
-
-abbrev pub stepped : Biquad → Float → Biquad
-stepped b x = record { coeffs = b .coeffs; state = nextOf (b .coeffs) (b .state) x }
-
-abbrev pub heard : Biquad → Float → Float
-heard b x = outputOf (b .coeffs) (b .state) x
-
 unfoldable pub passedOf : DcHighPassFilter → Biquad → Biquad → Float → Passed
 passedOf f first second y = record { filter = record { config = f .config; first = first; second = second; «dc_bias» = f .«dc_bias» }; output = y }
 
@@ -117,7 +108,7 @@ stagedBy FourthOrder f x =
       output = heard (f .second) y;
     }
 
--- then the stages 'if the high-pass is on'
+-- one sample: the bias taken off, then the stages 'if the high-pass is on'
 unfoldable pub passOf : DcHighPassFilter → Float → Passed
 passOf f x =
     cond (f .config .«enable_highpass») (stagedBy (f .config .«highpass_order») f (centredOf f x)) (record { filter = f; output = centredOf f x })

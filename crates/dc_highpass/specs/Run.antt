@@ -2,9 +2,9 @@
 use mathlib.Core.List.{List, [], _∷_}
 use Prim.Native.Nat.{ℕ}
 use lib.Ieee.{Float}
+use Rattle.dc_state.specs.declared.DcHighPassFilter.{DcHighPassFilter}
 use Rattle.dc_highpass.specs.Filter.{processOf, resetOf}
 use Rattle.dc_highpass.specs.declared.VadContext.{VadContext}
-use Rattle.dc_highpass.specs.declared.DcHighPassFilter.{DcHighPassFilter}
 
 -- a block with its label and the length of the output that is lent, or a reset
 pub data Call : Type 0 where

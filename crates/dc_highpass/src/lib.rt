@@ -1,46 +1,27 @@
 // DC offset removal and a Butterworth high-pass: the Rust's src/preprocessing/dc_highpass.rs. The state is passed in and returned, the output is lent.
-pub mod biquad;
-pub mod settings;
-
 ghost use mathlib.Core.Path.{_≡_};
-ghost use Prim.Native.Nat.{_+_, _-_, _≤_};
+ghost use Prim.Native.Nat.{_-_, _≤_};
 ghost use lib.ListN.{length, replicate};
 ghost use lib.Seq.{sets};
 ghost use lib.Ieee.{binary32, ofBits, neg};
-ghost use Rattle.dc_highpass.specs.Filter.{coefficientsOf, freshOf, nothingOpen, openOf, listens, sumFrom, meanOf, biasedOf, centredOf, stepped, heard, passedOf, stagedBy, passOf, resultsOf, refused, checkOf, ranOf, writtenOf, processOf, outputAfter, resetOf, biasRead};
-use biquad::Biquad;
-use biquad::BiquadCoefficients;
-use biquad::BiquadState;
-use settings::sound;
-use settings::validate;
-
-// One stage, or two.
-pub enum HighpassOrder {
-    SecondOrder,
-    FourthOrder,
-}
+ghost use Rattle.dc_state.specs.Biquad.{stepped, heard};
+ghost use Rattle.dc_state.specs.Operations.{centredOf};
+ghost use Rattle.dc_highpass.specs.Filter.{coefficientsOf, freshOf, nothingOpen, openOf, listens, sumFrom, meanOf, biasedOf, passedOf, stagedBy, passOf, resultsOf, refused, checkOf, ranOf, writtenOf, processOf, outputAfter, resetOf, biasRead};
+use dc_state::DcHighPassFilter;
+use dc_state::HighpassOrder;
+use dc_state::PreprocessingConfig;
+use dc_state::biquad;
+use dc_state::biquad::Biquad;
+use dc_state::biquad::BiquadCoefficients;
+use dc_state::biquad::BiquadState;
+use dc_state::settings::sound;
+use dc_state::settings::validate;
 
 // What is known of a block: the Rust's `Option<VadContext>`.
 pub enum VadContext {
     Unlabelled,
     Silence,
     Speech,
-}
-
-pub struct PreprocessingConfig {
-    pub highpass_cutoff_hz: f32,
-    pub sample_rate_hz: u32,
-    pub dc_bias_alpha: f32,
-    pub enable_dc_removal: bool,
-    pub enable_highpass: bool,
-    pub highpass_order: HighpassOrder,
-}
-
-pub struct DcHighPassFilter {
-    pub config: PreprocessingConfig,
-    pub first: Biquad,
-    pub second: Biquad,
-    pub dc_bias: f32,
 }
 
 // The number of a refusal, 0 for none, and the sample's place where it carries one.

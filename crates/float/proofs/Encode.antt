@@ -7,12 +7,11 @@ use native.Mathlib.Omega.{arith}
 use mathlib.Core.Bool.{Bool, true, false, cond}
 use lib.Dec.{T, ltb, ltb→lt, lt→ltb, not-T, lit<}
 use lib.Pow.{pow-add, pow-pos, pow-mono, pow-lt, shr-lt}
-use lib.Ieee.{Float, nan, inf, fin, Format, binary32, prec, low, down, size, odd, units, round, toBits, ofBits, top}
+use lib.Ieee.{Float, nan, inf, fin, Format, binary32, prec, low, down, size, odd, units, round, toBits, ofBits}
 use lib.Ieee.Digits.{Equals, odd-val, size-lt, size-le}
 use lib.Ieee.Fits.{round-is, two, two-le-pos, nearest-le, odd-fits, down-pos}
 use lib.Ieee.Bits.{ofBits-toBits, cond-no}
 use lib.Ieee.Nearest.{closest, closest-same, nearest-ge}
-use lib.Ieee.Order.{kept}
 use Rattle.float.proofs.Sticky.{Dropped, drop-is}
 
 -- ---- a word with its top digit placed

@@ -5,7 +5,6 @@ use Prim.Native.Nat.{_*_, _^_}
 use lib.IntN.{pos, negsuc}
 use lib.Ieee.{fin, binary32, binary64, sum, round, ofBits}
 use Rattle.float.specs.declared.Rounded.the-variants.{Finite, Nothing}
-use Rattle.float.specs.Finite.{rounded}
 use Rattle.float.specs.Fused.{fusedOf}
 use Rattle.float.specs.Root.{rootOf, twiceRoot}
 use Rattle.float.specs.Whole.{roundOf, ceilOf}

@@ -8,13 +8,13 @@ use mathlib.Core.Bool.{true, false, true≢false}
 use lib.Dec.{T, ltb, ltb→lt, lt→ltb, lit≤, lit<}
 use lib.Pow.{pow-add, pow-pos, pow-mono, pow-lt, shl-lt}
 use lib.IntN.{ℤ}
-use lib.Ieee.{Float, nan, inf, fin, binary32, up, down, size, nearest, round, fits, lt, ofBits, toBits}
+use lib.Ieee.{Float, nan, inf, fin, binary32, up, down, size, round, fits, lt, ofBits, toBits}
 use lib.Ieee.Digits.{Equals, size-le}
 use lib.Ieee.Fits.{round-fits, nearest-le, down-pos}
 use lib.Ieee.Bits.{ofBits-toBits}
 use lib.Ieee.Exact.{HasValue, round-exact}
 use lib.Ieee.Order.{drop, kept}
-use lib.Ieee.Scale.{grid, overflow, finite, round-val}
+use lib.Ieee.Scale.{grid, overflow, round-val}
 use lib.Ieee.Positive.{num, den, positive, den-pos}
 use Rattle.float.specs.declared.Rounded.the-variants.{Finite}
 use Rattle.float.specs.Inside.{fieldOf, placeAt, M, Q}

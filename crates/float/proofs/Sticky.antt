@@ -12,7 +12,7 @@ use lib.Ieee.{Format, prec, low, size, nearest, units, round}
 use lib.Ieee.Digits.{size-lt, size-le, size-reaches}
 use lib.Ieee.Fits.{round-is, two, two-le-pos}
 use lib.Ieee.Nearest.{closest, closest-same}
-use lib.Ieee.Order.{drop, kept}
+use lib.Ieee.Order.{drop}
 
 -- ---- what `compare` says
 abbrev pub Cmp : Ordering → ℕ → ℕ → Type 0

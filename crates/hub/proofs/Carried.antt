@@ -15,15 +15,16 @@ use Rattle.float.specs.Fused.{fusedOf}
 use Rattle.float.specs.declared.Rounded.{Rounded}
 use Rattle.float.specs.declared.Rounded.the-variants.{Finite, Nothing}
 use Rattle.float.proofs.Bounds.{fused-fits}
-use Rattle.dc_highpass.specs.Biquad.{orNan, outputOf, nextOf}
-use Rattle.dc_highpass.specs.Settings.{soundOf, refusalOf}
-use Rattle.dc_highpass.specs.Filter.{coefficientsOf, still, freshOf, nothingOpen, openOf, isEmpty, listens, biasOf, biasedOf, centredOf, stepped, stagedBy, passOf, resultsOf, afterOf, checkOf, ranOf, refused, processOf, resetOf}
-use Rattle.dc_highpass.specs.declared.biquad.Biquad.{Biquad}
-use Rattle.dc_highpass.specs.declared.HighpassOrder.{HighpassOrder}
-use Rattle.dc_highpass.specs.declared.HighpassOrder.the-variants.{SecondOrder, FourthOrder}
-use Rattle.dc_highpass.specs.declared.PreprocessingConfig.{PreprocessingConfig}
+use Rattle.dc_state.specs.Biquad.{orNan, outputOf, nextOf, stepped}
+use Rattle.dc_state.specs.Settings.{soundOf, refusalOf}
+use Rattle.dc_state.specs.Operations.{centredOf}
+use Rattle.dc_state.specs.declared.biquad.Biquad.{Biquad}
+use Rattle.dc_state.specs.declared.HighpassOrder.{HighpassOrder}
+use Rattle.dc_state.specs.declared.HighpassOrder.the-variants.{SecondOrder, FourthOrder}
+use Rattle.dc_state.specs.declared.PreprocessingConfig.{PreprocessingConfig}
+use Rattle.dc_state.specs.declared.DcHighPassFilter.{DcHighPassFilter}
+use Rattle.dc_highpass.specs.Filter.{coefficientsOf, still, freshOf, nothingOpen, openOf, isEmpty, listens, biasOf, biasedOf, stagedBy, passOf, resultsOf, afterOf, checkOf, ranOf, refused, processOf, resetOf}
 use Rattle.dc_highpass.specs.declared.VadContext.{VadContext}
-use Rattle.dc_highpass.specs.declared.DcHighPassFilter.{DcHighPassFilter}
 use Rattle.dc_highpass.specs.declared.Opened.{Opened}
 use Rattle.dc_highpass.specs.declared.Processed.{Processed}
 use Rattle.dc_highpass.specs.declared.Passed.{Passed}

@@ -8,9 +8,9 @@ use lib.Dec.{eqb}
 use lib.ListN.{length}
 use lib.Ieee.{Float}
 use borrow.Author.Tests.{leb-true, lt-ltb, le-ltb}
+use Rattle.dc_state.specs.declared.DcHighPassFilter.{DcHighPassFilter}
+use Rattle.dc_state.specs.declared.PreprocessingConfig.{PreprocessingConfig}
 use Rattle.dc_highpass.specs.Filter.{openOf, nothingOpen, processOf, outputAfter, resetOf, biasRead}
-use Rattle.dc_highpass.specs.declared.DcHighPassFilter.{DcHighPassFilter}
-use Rattle.dc_highpass.specs.declared.PreprocessingConfig.{PreprocessingConfig}
 use Rattle.dc_highpass.specs.declared.VadContext.{VadContext}
 use Rattle.dc_highpass.specs.declared.Opened.{Opened}
 use Rattle.dc_highpass.specs.declared.Processed.{Processed}

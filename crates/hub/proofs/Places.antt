@@ -9,9 +9,9 @@ use lib.ListN.{length}
 use lib.Ieee.{Float}
 use borrow.Author.Tests.{ltb-true, ltb-false, eqb-true, eqb-false}
 use Rattle.ranges.specs.Ranges.{cleanOf}
-use Rattle.dc_highpass.specs.Settings.{soundOf}
+use Rattle.dc_state.specs.Settings.{soundOf}
+use Rattle.dc_state.specs.declared.DcHighPassFilter.{DcHighPassFilter}
 use Rattle.dc_highpass.specs.Filter.{biasedOf, resultsOf, afterOf, refused, checkOf, ranOf, processOf}
-use Rattle.dc_highpass.specs.declared.DcHighPassFilter.{DcHighPassFilter}
 use Rattle.dc_highpass.specs.declared.VadContext.{VadContext}
 use Rattle.dc_highpass.specs.declared.Processed.{Processed}
 use Rattle.dc_highpass.proofs.Calls.{results-le, checked}

@@ -8,7 +8,7 @@ use lib.ListN.{length, drop, getD, set, drop-of-length-le}
 use mir.Val.{boolByte}
 use lib.Seq.{sets}
 use Rattle.lists.specs.Stores.{sets-cons, sets-all}
-use Rattle.dc_highpass.specs.declared.DcHighPassFilter.{DcHighPassFilter}
+use Rattle.dc_state.specs.declared.DcHighPassFilter.{DcHighPassFilter}
 use Rattle.hub.specs.FilterState.{flagWord, configWords, coefficientWords, memoryWords, stageWords, wordsOf, written}
 
 -- by parts: `rw` would look for each of 25 words in the whole goal

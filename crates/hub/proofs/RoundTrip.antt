@@ -9,12 +9,12 @@ use lib.ListN.{length, drop, replicate}
 use lib.Ieee.{Float, binary32, ofBits, toBits, isNan, fits}
 use lib.Ieee.Bits.{ofBits-toBits, ofBits-fits}
 use borrow.Author.Tests.{le-leb}
+use Rattle.dc_state.specs.declared.biquad.Biquad.{Biquad}
+use Rattle.dc_state.specs.declared.HighpassOrder.{HighpassOrder}
+use Rattle.dc_state.specs.declared.HighpassOrder.the-variants.{SecondOrder, FourthOrder}
+use Rattle.dc_state.specs.declared.PreprocessingConfig.{PreprocessingConfig}
+use Rattle.dc_state.specs.declared.DcHighPassFilter.{DcHighPassFilter}
 use Rattle.dc_highpass.specs.Filter.{nothingOpen, freshOf}
-use Rattle.dc_highpass.specs.declared.biquad.Biquad.{Biquad}
-use Rattle.dc_highpass.specs.declared.HighpassOrder.{HighpassOrder}
-use Rattle.dc_highpass.specs.declared.HighpassOrder.the-variants.{SecondOrder, FourthOrder}
-use Rattle.dc_highpass.specs.declared.PreprocessingConfig.{PreprocessingConfig}
-use Rattle.dc_highpass.specs.declared.DcHighPassFilter.{DcHighPassFilter}
 use Rattle.hub.specs.FilterState.{numberAt, orderOf, coefficientsAt, memoryAt, stageAt, configAt, filterAt, readable, wordOf, flagWord, orderWord, configWords, coefficientWords, memoryWords, stageWords, wordsOf, written}
 
 -- ---- the numbers are f32s, as they are in every filter that the code holds

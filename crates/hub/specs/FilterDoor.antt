@@ -5,11 +5,11 @@ use Prim.Native.Nat.{ℕ, _+_, _*_}
 use lib.Dec.{ltb, eqb}
 use lib.ListN.{length, getD}
 use lib.Ieee.{Float, nan}
+use Rattle.dc_state.specs.declared.PreprocessingConfig.{PreprocessingConfig}
+use Rattle.dc_state.specs.declared.DcHighPassFilter.{DcHighPassFilter}
 use Rattle.dc_highpass.specs.Filter.{openOf, nothingOpen, refused, processOf, outputAfter, resetOf, biasRead}
 use Rattle.dc_highpass.specs.declared.VadContext.{VadContext}
 use Rattle.dc_highpass.specs.declared.VadContext.the-variants.{Unlabelled, Silence, Speech}
-use Rattle.dc_highpass.specs.declared.PreprocessingConfig.{PreprocessingConfig}
-use Rattle.dc_highpass.specs.declared.DcHighPassFilter.{DcHighPassFilter}
 use Rattle.dc_highpass.specs.declared.Opened.{Opened}
 use Rattle.dc_highpass.specs.declared.Processed.{Processed}
 use Rattle.hub.specs.FilterState.{filterAt, readable, written, orderOf, wordOf}

@@ -8,13 +8,13 @@ use Prim.Native.Nat.{ℕ, _+_}
 use lib.Dec.{leb, eqb}
 use lib.ListN.{length, drop, getD}
 use lib.Ieee.{Float, binary32, ofBits, toBits}
-use Rattle.dc_highpass.specs.declared.biquad.Biquad.{Biquad}
-use Rattle.dc_highpass.specs.declared.biquad.BiquadCoefficients.{BiquadCoefficients}
-use Rattle.dc_highpass.specs.declared.biquad.BiquadState.{BiquadState}
-use Rattle.dc_highpass.specs.declared.HighpassOrder.{HighpassOrder}
-use Rattle.dc_highpass.specs.declared.HighpassOrder.the-variants.{SecondOrder, FourthOrder}
-use Rattle.dc_highpass.specs.declared.PreprocessingConfig.{PreprocessingConfig}
-use Rattle.dc_highpass.specs.declared.DcHighPassFilter.{DcHighPassFilter}
+use Rattle.dc_state.specs.declared.biquad.Biquad.{Biquad}
+use Rattle.dc_state.specs.declared.biquad.BiquadCoefficients.{BiquadCoefficients}
+use Rattle.dc_state.specs.declared.biquad.BiquadState.{BiquadState}
+use Rattle.dc_state.specs.declared.HighpassOrder.{HighpassOrder}
+use Rattle.dc_state.specs.declared.HighpassOrder.the-variants.{SecondOrder, FourthOrder}
+use Rattle.dc_state.specs.declared.PreprocessingConfig.{PreprocessingConfig}
+use Rattle.dc_state.specs.declared.DcHighPassFilter.{DcHighPassFilter}
 
 -- ---- from words to a filter
 

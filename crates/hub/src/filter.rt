@@ -9,16 +9,16 @@ ghost use lib.Seq.{sets};
 ghost use Rattle.dc_highpass.specs.Filter.{processOf, outputAfter};
 ghost use Rattle.hub.specs.FilterState.{numberAt, orderOf, coefficientsAt, memoryAt, stageAt, configAt, filterAt, readable, orderWord, wordsOf, written};
 ghost use Rattle.hub.specs.FilterDoor.{packed, settings, fiveAt, openedOf, openAnswer, openState, labelOf, processAnswer, processState, processOutput, resetAnswer, resetState, clearedOf, biasAnswer};
-use dc_highpass::DcHighPassFilter;
-use dc_highpass::HighpassOrder;
 use dc_highpass::Opened;
-use dc_highpass::PreprocessingConfig;
 use dc_highpass::Processed;
 use dc_highpass::Refusal;
 use dc_highpass::VadContext;
-use dc_highpass::biquad::Biquad;
-use dc_highpass::biquad::BiquadCoefficients;
-use dc_highpass::biquad::BiquadState;
+use dc_state::DcHighPassFilter;
+use dc_state::HighpassOrder;
+use dc_state::PreprocessingConfig;
+use dc_state::biquad::Biquad;
+use dc_state::biquad::BiquadCoefficients;
+use dc_state::biquad::BiquadState;
 use float::to_bits;
 
 fn order(fourth: bool) -> HighpassOrder

@@ -14,15 +14,16 @@ use Rattle.vad_frames.specs.Grid.{framesOf, energiesOf, framedOf, carryOf}
 use Rattle.vad_frames.specs.declared.Framed.{Framed}
 use Rattle.vad_frames.proofs.Laws.{emphasized-length, frames-below, energies-length, consumed-le, carry-flushed, carry-short}
 use Rattle.vad_segments.specs.Closing.{roomOf, flat}
-use Rattle.vad_segments.specs.Judging.{flooredTo, framesAt, callRows, classifiedOf}
+use Rattle.vad_segments.specs.Judging.{flooredTo, framesAt, callRows}
 use Rattle.vad_segments.specs.Loudness.{seedOf}
 use Rattle.vad_segments.specs.Positions.{holdsOf}
 use Rattle.vad_segments.specs.Rooms.{Within}
 use Rattle.vad_segments.specs.declared.SpeechChunk.{SpeechChunk}
 use Rattle.vad_segments.specs.declared.Track.{Track}
-use Rattle.vad_segments.specs.declared.Classified.{Classified}
 use Rattle.vad_segments.proofs.Laws.{flat-length, room-enough}
 use Rattle.vad_segments.proofs.Ordered.{call-rows-counted}
+use Rattle.vad_classify.specs.Classify.{classifiedOf}
+use Rattle.vad_classify.specs.declared.Classified.{Classified}
 use Rattle.vad_state.specs.State.{windowOf, carriedOf, heldOf}
 use Rattle.vad_call.specs.Calls.{valuesOf, waitingOf, measuredFrom, measuredOf, consumedFrom, carryAfter, progressOf, holdingWith, holdingOf, keptOf, dueOf, seededOf, gridStart, framesDue, verdictOf, rowsDue, refusedBy, acceptedOf, tooMany, concludedOf, reportedIn, ranOf, rowsOfCall, writtenOf}
 use Rattle.vad_state.specs.declared.VadDetector.{VadDetector}

@@ -11,12 +11,13 @@ use Rattle.vad_frames.specs.Emphasis.{coefficientOf, emphasized, lastOf}
 use Rattle.vad_frames.specs.Grid.{energiesOf, framedOf}
 use Rattle.vad_segments.specs.Closing.{roomOf, flat}
 use Rattle.vad_segments.specs.Loudness.{seedOf}
-use Rattle.vad_segments.specs.Judging.{flooredTo, framesAt, callRows, classifiedOf}
+use Rattle.vad_segments.specs.Judging.{flooredTo, framesAt, callRows}
 use Rattle.vad_segments.specs.Positions.{holdsOf}
 use Rattle.vad_segments.specs.declared.FrameMetrics.{FrameMetrics}
 use Rattle.vad_segments.specs.declared.SpeechChunk.{SpeechChunk}
 use Rattle.vad_segments.specs.declared.Track.{Track}
-use Rattle.vad_segments.specs.declared.Classified.{Classified}
+use Rattle.vad_classify.specs.Classify.{classifiedOf}
+use Rattle.vad_classify.specs.declared.Classified.{Classified}
 use Rattle.vad_state.specs.State.{windowOf, carriedOf, heldOf}
 use Rattle.vad_state.specs.Arrays.{filledOf}
 use Rattle.vad_state.specs.declared.VadDetector.{VadDetector}

@@ -10,9 +10,9 @@ ghost use Rattle.vad_frames.specs.Grid.{framesOf, energiesOf, framedOf};
 ghost use Rattle.vad_segments.specs.Closing.{roomOf, flat};
 ghost use Rattle.vad_state.specs.State.{soundOf};
 ghost use Rattle.vad_call.specs.Calls.{waitingOf, holdingWith, dueOf, seededOf, gridStart, verdictOf, rowsDue, advancedOf, refusedBy, acceptedOf, tooMany, reportedIn, ranOf, writtenOf};
+use vad_classify::Classified;
+use vad_classify::ROW_FIELDS;
 use vad_frames::Framed;
-use vad_segments::Classified;
-use vad_segments::ROW_FIELDS;
 use vad_segments::Track;
 use vad_state::VadDetector;
 use vad_state::arrays::clear_past;
@@ -195,7 +195,7 @@ fn verdict(detector: VadDetector, received: u64, due: &[f32], finish: bool) -> C
     ensures { λ r. ⌜ r ≡ verdictOf finish detector received (now (due .entry)) ⌝ }
 {
     let rules = detector.rules;
-    vad_segments::classify(
+    vad_classify::classify(
         rules,
         received,
         seeded(detector, due),
@@ -223,7 +223,7 @@ fn report(
         return;
     }
     let rules = detector.rules;
-    vad_segments::write_rows(
+    vad_classify::write_rows(
         rules,
         received,
         seeded(detector, due),

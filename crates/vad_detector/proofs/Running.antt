@@ -28,7 +28,7 @@ use Rattle.vad_frames.specs.Grid.{taken, framesOf, energiesOf, framedOf, carryO
 use Rattle.vad_frames.proofs.Laws.{frame-starts, frames-within, frames-le, energies-length, consumed-le, carry-flushed, whole-consumed, carry-short}
 use Rattle.vad_frames.proofs.Bounds.{emphasized-mag, last-mag, energies-low, energies-fit}
 use Rattle.vad_segments.specs.Loudness.{seedOf}
-use Rattle.vad_segments.specs.Judging.{flooredTo, framesAt, callTrack, classifiedOf, endedOf, trackAfter}
+use Rattle.vad_segments.specs.Judging.{flooredTo, framesAt, callTrack, endedOf, trackAfter}
 use Rattle.vad_segments.specs.Positions.{holdsOf}
 use Rattle.vad_segments.specs.Rooms.{FrameWithin}
 use Rattle.vad_segments.specs.declared.ActiveSegment.the-variants.{Closed}
@@ -36,6 +36,7 @@ use Rattle.vad_segments.specs.declared.Track.{Track}
 use Rattle.vad_segments.proofs.Ordered.{TrackOrdered, either, later-limit, call-ordered, call-rows-talk, frames-start, frames-energies, frames-length, frames-within as frames-inside}
 use Rattle.vad_segments.proofs.Counts.{ActiveCounted, countIn, call-counted, call-count-grows}
 use Rattle.vad_segments.proofs.Floor.{FloorRules, FloorHeld, EnergyIn, ActiveHeld, floor-kept-call, energy-kept-call, seed-held}
+use Rattle.vad_classify.specs.Classify.{classifiedOf}
 use Rattle.vad_state.specs.State.{windowOf, carriedOf, heldOf, handedIn, half32}
 use Rattle.vad_call.proofs.Calls.{values-count}
 use Rattle.vad_call.specs.Calls.{valuesOf, waitingOf, measuredFrom, measuredOf, consumedFrom, carryAfter, progressOf, holdingWith, holdingOf, keptOf, dueOf, seededOf, gridStart, framesDue, verdictOf, advancedOf}

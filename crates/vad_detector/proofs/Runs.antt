@@ -9,7 +9,7 @@ use native.Mathlib.Omega.{arith}
 use borrow.Author.Tests.{ltb-false, leb-true, eqb-true, eqb-false, le-ltb, ne-eqb}
 use lib.Dec.{T, lit<, lit≤, eqb, leb, ltb}
 use lib.ListN.{length}
-use lib.Ieee.{Float, nan, inf, fin, binary32, ofBits, fits, up, down, le, lt, neg}
+use lib.Ieee.{Float, nan, inf, fin, ofBits, up, down, le, lt, neg}
 use lib.Ieee.Scale.{finite}
 use lib.Ieee.Fits.{and-i}
 use lib.Ieee.Bits.{is-true}
@@ -31,7 +31,7 @@ use Rattle.vad_segments.proofs.Ordered.{ActiveOrdered}
 use Rattle.vad_segments.proofs.Counts.{ActiveCounted, countIn}
 use Rattle.vad_segments.proofs.Floor.{FloorRules, ActiveHeld, floor-rules, floor-is-finite, least-held, energy-in, total-in}
 use Rattle.vad_state.specs.State.{loudest32, total32, windowOf, carriedOf, heldOf, handedIn, settingsSound, soundOf}
-use Rattle.vad_detector.specs.Opening.{handedOver, openRefusal, rulesOf, freshTrack, freshOf, zeroRules, nothingOpen, openOf, restartedOf, resetTo, resetOf}
+use Rattle.vad_detector.specs.Opening.{handedOver, openRefusal, rulesOf, freshTrack, freshOf, zeroRules, nothingOpen, openOf, Handed, restartedOf, resetTo, resetOf}
 use Rattle.vad_call.specs.Calls.{tooMany, rowsDue, refusedBy, acceptedOf, concludedOf, ranOf, measuredOf, progressOf, dueOf, holdingOf, carryAfter, keptOf, verdictOf}
 use Rattle.vad_detector.specs.Entries.{checkOf, detectOf, flushOf}
 use Rattle.vad_detector.specs.Readings.{readOf, undecidedRead, analyzedRead, rowsRead, talkRead, floorRead, segmentRead}
@@ -116,12 +116,6 @@ pub running-sound : (d : VadDetector) → Running d → soundOf d ≡ true
 running-sound d r = whole d (running-is-sound d r)
 
 -- ---- opening
-
--- what is handed in are f32: a definition's Float need not be
-pub record Handed (c : VadConfig) (rise : Float) : Type 0 where
-  pub floor-fits : T (fits binary32 (c .«energy_floor»))
-  pub smoothing-fits : T (fits binary32 (c .«noise_smoothing»))
-  pub rise-fits : T (fits binary32 rise)
 
 -- a state that has heard nothing
 pub fresh-window : (r : Rules) (window : List Float) → length window ≡ r .lengths .«frame_length» → windowOf (freshOf r window) ≡ window
@@ -242,7 +236,7 @@ pub record Clean (d : VadDetector) (xs : List Float) : Type 0 where
 abbrev pub Ends : (premise : Type 0) → ℕ → VadDetector → VadDetector → VadDetector → Type 0
 Ends premise number given new after = (premise × (number ≡ 0) × (after ≡ new)) ⊎ ((number ≡ 0 → ⊥) × (after ≡ given))
 
-check-clean : (d : VadDetector) (xs : List Float) → checkOf d xs .number ≡ 0 → Clean d xs
+pub check-clean : (d : VadDetector) (xs : List Float) → checkOf d xs .number ≡ 0 → Clean d xs
 unfolding checkOf receivedIn
 check-clean d xs =
     go (soundOf d) (ltb 1024 (length xs)) (ltb (cleanOf xs) (length xs)) (leb (d .«processed_samples» + length xs) (2 ^ 40)) refl (ltb-false 1024 (length xs)) (λ e. clean-mags xs (ltb-false (cleanOf xs) (length xs) e)) (leb-true (d .«processed_samples» + length xs) (2 ^ 40))

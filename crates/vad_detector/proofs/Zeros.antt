@@ -12,14 +12,14 @@ use Rattle.vad_segments.specs.declared.Rules.{Rules}
 use Rattle.vad_segments.specs.declared.Track.{Track}
 use Rattle.vad_state.specs.State.{windowOf, carriedOf, heldOf, soundOf}
 use Rattle.vad_state.specs.Arrays.{filledOf}
-use Rattle.vad_detector.specs.Opening.{rulesOf, freshOf, openOf, resetTo}
+use Rattle.vad_detector.specs.Opening.{rulesOf, freshOf, openOf, Handed, resetTo}
 use Rattle.vad_call.specs.Calls.{advancedOf}
 use Rattle.vad_detector.specs.Run.{Call, Detect, Flush, Reset, next, numberOf, play}
 use Rattle.vad_state.specs.declared.VadDetector.{VadDetector}
 use Rattle.vad_call.specs.declared.Progress.{Progress}
 use Rattle.vad_state.proofs.Parts.{parts, frame-high}
 use Rattle.vad_detector.proofs.Running.{Running, advanced-window, advanced-carry, advanced-held}
-use Rattle.vad_detector.proofs.Runs.{Handed, opened-is, open-parts, fresh-window, detect-ends, flush-ends, reset-ends, open-running, next-running}
+use Rattle.vad_detector.proofs.Runs.{opened-is, open-parts, fresh-window, detect-ends, flush-ends, reset-ends, open-running, next-running}
 
 pub record ZerosPast (d : VadDetector) : Type 0 where
   pub window : d .window ≡ filledOf 2048 (windowOf d)

@@ -2,9 +2,9 @@
 use mathlib.Core.Bool.{Bool, true, false, not, _&&_, cond}
 use mathlib.Core.List.{List, []}
 use Prim.Native.Nat.{ℕ}
-use lib.Dec.{eqb}
+use lib.Dec.{T, eqb}
 use lib.ListN.{length}
-use lib.Ieee.{Float}
+use lib.Ieee.{Float, binary32, fits}
 use Rattle.vad_config.specs.Domain.{zero32, startIn}
 use Rattle.vad_config.specs.Settings.{frameOf, lengthsOf, refusalOf}
 use Rattle.vad_config.specs.declared.VadConfig.{VadConfig}
@@ -98,6 +98,12 @@ unfoldable pub openOf : VadConfig → List Float → Float → Opened
 openOf c window rise =
     let n = openRefusal c window rise in
     record { refusal = n; detector = cond (eqb n 0) (freshOf (rulesOf c rise) window) nothingOpen }
+
+-- what theorems over runs ask besides acceptance: that these are f32, as every number of that type is; a definition's number could be any
+pub record Handed (c : VadConfig) (rise : Float) : Type 0 where
+  pub floor-fits : T (fits binary32 (c .«energy_floor»))
+  pub smoothing-fits : T (fits binary32 (c .«noise_smoothing»))
+  pub rise-fits : T (fits binary32 rise)
 
 -- ---- reset
 

@@ -19,10 +19,11 @@ use Rattle.vad_frames.specs.Energy.{squareOf, squaresFrom, meanSquareOf, energy
 use Rattle.vad_frames.specs.Grid.{taken, framesFrom, framesOf, energiesOf, consumedOf, framedOf}
 use Rattle.vad_segments.specs.Loudness.{ratioOf, requiredOf, loudOf, inSpeechOf, weightOf, atLeast, floorOf, lesserOf, leastFrom, seedOf}
 use Rattle.vad_segments.specs.Closing.{meanEnergyOf, timeAt, chunkOf, fieldsOf, roomOf, reported, flat, talkOf, paddedStart, paddedEnd, droppedOf, tooShort, timedOf, finalizedOf, settledOf, closedBy, closedOf}
-use Rattle.vad_segments.specs.Judging.{flooredTo, activeTo, begunAt, segmentFor, extendedBy, heardOf, pausedBy, pausedOf, floorAfter, turnedOf, judgedOf, frameAt, framesAt, trackAfter, rowsOf, loudsOf, countOf, endedOf, callRows, callTrack, classifiedOf}
+use Rattle.vad_segments.specs.Judging.{flooredTo, activeTo, begunAt, segmentFor, extendedBy, heardOf, pausedBy, pausedOf, floorAfter, turnedOf, judgedOf, frameAt, framesAt, trackAfter, rowsOf, loudsOf, countOf, endedOf, callRows, callTrack}
 use Rattle.vad_segments.specs.Positions.{holdsOf}
 use Rattle.vad_segments.specs.declared.Rules.{Rules}
 use Rattle.vad_segments.specs.declared.ActiveSegment.the-variants.{Closed}
+use Rattle.vad_classify.specs.Classify.{classifiedOf}
 use Rattle.vad_state.specs.State.{windowOf, carriedOf, heldOf, handedIn, sameLengths, settingsSound, carrySound, trackSound, isClosed, heldSound, segmentSound, activeSound, soundOf}
 use Rattle.vad_state.specs.Arrays.{filledOf}
 use Rattle.vad_detector.specs.Opening.{handedOver, openRefusal, rulesOf, freshTrack, freshOf, openOf}

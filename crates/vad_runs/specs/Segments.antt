@@ -12,12 +12,13 @@ use Rattle.vad_config.specs.Domain.{rateIn, startIn, receivedIn}
 use Rattle.vad_config.specs.Lengths.{timeOf, timeOfSampleOf}
 use Rattle.vad_segments.specs.Loudness.{ratioOf, requiredOf, loudOf, inSpeechOf, weightOf, atLeast, floorOf}
 use Rattle.vad_segments.specs.Closing.{meanEnergyOf, timeAt, chunkOf, fieldsOf, reported, flat, talkOf, paddedStart, paddedEnd, droppedOf, tooShort, timedOf, finalizedOf, settledOf, closedBy, closedOf}
-use Rattle.vad_segments.specs.Judging.{flooredTo, activeTo, begunAt, segmentFor, extendedBy, heardOf, pausedBy, pausedOf, floorAfter, turnedOf, judgedOf, frameAt, framesAt, trackAfter, rowsOf, loudsOf, countOf, endedOf, callRows, callTrack, classifiedOf}
+use Rattle.vad_segments.specs.Judging.{flooredTo, activeTo, begunAt, segmentFor, extendedBy, heardOf, pausedBy, pausedOf, floorAfter, turnedOf, judgedOf, frameAt, framesAt, trackAfter, rowsOf, loudsOf, countOf, endedOf, callRows, callTrack}
 use Rattle.vad_segments.specs.Positions.{nextOf, decidedTo, undecidedOf}
 use Rattle.vad_segments.specs.declared.Rules.{Rules}
 use Rattle.vad_segments.specs.declared.Track.{Track}
 use Rattle.vad_segments.specs.declared.ActiveSegment.{ActiveSegment}
 use Rattle.vad_segments.specs.declared.ActiveSegment.the-variants.{Closed, Open}
+use Rattle.vad_classify.specs.Classify.{classifiedOf}
 
 -- 8 kHz, frames of 2 ms, overlap 0.5, activation 3, release 2, gate 0.004, smoothing 0.5, floor 2^-7, hangover 1, minimum 3, padding 3 ms
 abbrev pub rules : Rules

@@ -186,10 +186,3 @@ recent-after r limit (f ∷ fs) t flags h = recent-after r limit fs (judgedOf r 
 pub recent-call : (finish : Bool) (r : Rules) (limit : ℕ) (t : Track) (fs : List FrameMetrics) (flags : List Bool) → Recent flags (t .«active_segment») → Recent (reverseAux (loudsOf r limit t fs) flags) (callTrack finish r limit t fs .«active_segment»)
 unfolding callTrack
 recent-call finish r limit t fs flags h = ended-active (Recent (reverseAux (loudsOf r limit t fs) flags)) finish r limit (trackAfter r limit t fs) tt (recent-after r limit fs t flags h)
-
--- a segment is open only if one of the last hangover + 1 frames was loud
-pub open-recent : (hangover : ℕ) (flags : List Bool) (a : ActiveSegment) (s : ActiveSegmentState) → a ≡ Open s → ActiveCounted hangover a → Recent flags a → (k : ℕ) × (k ≤ hangover) × (getD flags k false ≡ true)
-open-recent hangover flags a s e c h = go (subst (ActiveCounted hangover) e c) (subst (Recent flags) e h)
-  where
-    go : SegmentCounted hangover s → Recent flags (Open s) → (k : ℕ) × (k ≤ hangover) × (getD flags k false ≡ true)
-    go c h = (s .«silence_run», c .2, h)

@@ -1,8 +1,7 @@
 -- `classify`: one frame judged, and a call's frames in order.
-use mathlib.Core.Bool.{Bool, true, false, not, cond}
-use mathlib.Core.List.{List, [], _∷_, _++_, map}
+use mathlib.Core.Bool.{Bool, true, false, cond}
+use mathlib.Core.List.{List, [], _∷_, _++_}
 use Prim.Native.Nat.{ℕ, suc, _+_, min, max}
-use lib.ListN.{length}
 use lib.Ieee.{Float, binary32, ofBits, add}
 use Rattle.score.specs.Score.{scoreOf}
 use Rattle.vad_config.specs.declared.Lengths.{Lengths}
@@ -17,7 +16,6 @@ use Rattle.vad_segments.specs.declared.SpeechChunk.{SpeechChunk}
 use Rattle.vad_segments.specs.declared.Report.the-variants.{NoRow}
 use Rattle.vad_segments.specs.declared.Track.{Track}
 use Rattle.vad_segments.specs.declared.Judged.{Judged}
-use Rattle.vad_segments.specs.declared.Classified.{Classified}
 
 -- ---- one frame
 
@@ -152,9 +150,3 @@ callRows finish r limit t fs = rowsOf r limit t fs ++ reported (endedOf finish r
 
 unfoldable pub callTrack : Bool → Rules → ℕ → Track → List FrameMetrics → Track
 callTrack finish r limit t fs = endedOf finish r limit (trackAfter r limit t fs) .track
-
--- the track, with the floor in it, and 'frames, loud and quiet counts'
-unfoldable pub classifiedOf : Bool → Rules → ℕ → Track → List FrameMetrics → Classified
-classifiedOf finish r limit t fs =
-    let louds = loudsOf r limit t fs in
-    record { track = callTrack finish r limit t fs; frames = length fs; loud = countOf louds; quiet = countOf (map not louds) }

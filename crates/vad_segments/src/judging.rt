@@ -1,7 +1,7 @@
 // One frame judged: the loop body of `classify`.
 ghost use mathlib.Core.Path.{_≡_};
 ghost use Prim.Native.Nat.{_≤_, _^_};
-ghost use Rattle.vad_segments.specs.Judging.{activeTo, segmentFor, extendedBy, heardOf, pausedBy, pausedOf, turnedOf, judgedOf};
+ghost use Rattle.vad_segments.specs.Judging.{frameAt, activeTo, segmentFor, extendedBy, heardOf, pausedBy, pausedOf, turnedOf, judgedOf};
 ghost use Rattle.vad_segments.specs.Rooms.{LengthsWithin, ActiveWithin, Within};
 use super::ActiveSegment;
 use super::ActiveSegmentState;
@@ -17,6 +17,20 @@ use super::loudness::is_loud;
 use super::loudness::next_floor;
 use super::loudness::required_ratio;
 use super::order::greater;
+use super::order::lesser;
+use vad_config::Lengths;
+
+// A short frame ends where the sound received ends.
+pub fn frame_at(lengths: Lengths, received: u64, start: u64, energy: f32) -> FrameMetrics
+    requires { ⌜ (lengths .«frame_length» ≤ 65536) × (start ≤ 2 ^ 42) ⌝ }
+    ensures { λ r. ⌜ r ≡ frameAt lengths received start energy ⌝ }
+{
+    FrameMetrics {
+        start_sample: start,
+        end_sample: lesser(start + lengths.frame_length as u64, received),
+        energy,
+    }
+}
 
 fn with_active(track: Track, active: ActiveSegment) -> Track
     ensures { λ r. ⌜ r ≡ activeTo active track ⌝ }

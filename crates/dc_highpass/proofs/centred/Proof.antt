@@ -1,4 +1,4 @@
-use Rattle.dc_highpass.specs.Filter.{centredOf}
+use Rattle.dc_state.specs.Operations.{centredOf}
 use Rattle.dc_highpass.proofs.centred.Statement.{statement}
 use Rattle.dc_highpass.proofs.centred.Tie as tie
 

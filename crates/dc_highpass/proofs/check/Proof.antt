@@ -22,7 +22,10 @@ returns-2 c = simp (sym (c .before .before .sound .ensures) ∙ not-false _ (c .
 
 returns-3 : tie.Need-returns-3
 unfolding checkOf
-returns-3 c = simp (sym (c .before .before .before .sound .ensures) ∙ not-false _ (c .before .before .if1 .left), le-ltb _ _ (c .before .if2 .left), lt-ltb _ _ (c .if3 .taken))
+returns-3 c =
+    let args = c .before .before .before .before .before .args in
+    let few : args .room < length (args .samples .now) = (let t = c .if3 .taken in omega arith) in
+    simp (sym (c .before .before .before .sound .ensures) ∙ not-false _ (c .before .before .if1 .left), le-ltb _ _ (c .before .if2 .left), lt-ltb _ _ few)
 
 clean-requires : tie.Need-clean-requires
 clean-requires c κs = search needs

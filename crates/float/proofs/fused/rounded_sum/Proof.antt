@@ -4,7 +4,6 @@ use native.Mathlib.Nat.{lt-of-le-of-lt, le-trans, le-of-eq}
 use native.Mathlib.Omega.{arith}
 use mathlib.Core.Bool.{Bool, true, false, cond, Bool·beq}
 use lib.Dec.{ltb}
-use lib.Signed.{mag}
 use lib.Ieee.{binary32, round}
 use borrow.Author.Needs.{needs}
 use Rattle.float.specs.Inside.{magOf}

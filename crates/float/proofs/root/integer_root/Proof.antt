@@ -1,10 +1,10 @@
 use mathlib.Core.Path.{_≡_, sym, ap, _∙_, subst}
-use Prim.Native.Nat.{ℕ, zero, suc, _+_, _-_, _*_, _%_, _^_, _≤_, _<_, zero-le}
+use Prim.Native.Nat.{ℕ, suc, _+_, _-_, _*_, _%_, _^_, _≤_, _<_, zero-le}
 use native.Mathlib.Omega.{arith}
 use lib.Dec.{lit≤}
 use Rattle.float.proofs.root.integer_root.Statement.{statement}
 use Rattle.float.proofs.root.integer_root.Tie as tie
-use native.Mathlib.Nat.{le-trans, le-of-eq, le-of-lt, lt-of-lt-of-le, lt-of-le-of-lt, add-assoc, mul-le-mul, mul-lt-mul-of-pos-right, mul-le-mul-left, two-pow-succ}
+use native.Mathlib.Nat.{le-trans, le-of-eq, le-of-lt, lt-of-lt-of-le, lt-of-le-of-lt, add-assoc, mul-lt-mul-of-pos-right, mul-le-mul-left, two-pow-succ}
 use lib.Pow.{pow-pos}
 use Rattle.float.specs.Root.{integerRoot}
 use Rattle.float.proofs.Words.{unit-is}

@@ -1,5 +1,5 @@
 use mathlib.Core.Path.{_≡_, sym, ap₂, _∙_, subst}
-use Prim.Native.Nat.{ℕ, zero, suc, _+_, _-_, _*_, _/_, _%_, _^_, _≤_, _<_, compare}
+use Prim.Native.Nat.{ℕ, suc, _+_, _-_, _*_, _/_, _%_, _^_, _≤_, _<_, compare}
 use native.Mathlib.Nat.{le-trans, lt-of-lt-of-le, mod-eq-of-lt, eq-zero-or-pos}
 use native.Mathlib.Omega.{arith}
 use mathlib.Core.Logic.{inl, inr}
@@ -11,7 +11,6 @@ use lib.Signed.{mag}
 use lib.Ieee.Fits.{nearest-le}
 use lib.Ieee.Nearest.{closest}
 use borrow.Author.Needs.{needs}
-use Rattle.float.specs.Finite.{rounded}
 use Rattle.float.specs.Inside.{packOf}
 use Rattle.float.proofs.Places.{held, back', wider, place-held, place-small}
 use Rattle.float.proofs.Round.{Placed, placed, zero-packs, word-packs}

@@ -1,5 +1,5 @@
 use mathlib.Core.Path.{_≡_, sym, ap, _∙_, subst}
-use Prim.Native.Nat.{ℕ, zero, suc, _+_, _-_, _*_, _/_, _%_, _^_, _≤_, _<_, zero-le}
+use Prim.Native.Nat.{ℕ, _+_, _-_, _*_, _/_, _%_, _^_, _≤_, _<_, zero-le}
 use native.Mathlib.Nat.{le-trans, le-of-eq, lt-of-lt-of-le, mod-le, zero-mul, le-antisymm}
 use native.Mathlib.Omega.{arith}
 use lib.Bits.{bitAnd}
@@ -7,7 +7,6 @@ use lib.Pow.{pow-pos, pow-mono, shr-le}
 use borrow.Author.Needs.{needs}
 use Rattle.float.proofs.rounding.nearest_shift.Statement.{statement}
 use Rattle.float.proofs.rounding.nearest_shift.Tie as tie
-use lib.Ieee.{nearest}
 use lib.Ieee.Nearest.{closest}
 use Rattle.float.proofs.Sticky.{nearest-lt, nearest-gt, nearest-eq, closest-down}
 use Rattle.float.proofs.Words.{unit-is, mask-is}

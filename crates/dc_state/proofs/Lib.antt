@@ -1,0 +1,5 @@
+pub mod Tests
+pub mod Finite
+pub mod Parts
+pub mod Examples
+pub mod Unique

@@ -1,0 +1,3 @@
+pub mod Biquad
+pub mod Settings
+pub mod Operations

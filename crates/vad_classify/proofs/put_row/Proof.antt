@@ -1,0 +1,103 @@
+use native.Mathlib.Omega.{arith}
+use lib.ListN.{length-set}
+use Rattle.vad_segments.proofs.Laws.{fields-length, row-sets}
+use borrow.Author.Needs.{needs}
+use Rattle.vad_classify.proofs.put_row.Statement.{statement}
+use Rattle.vad_classify.proofs.put_row.Tie as tie
+
+mul-rows : tie.Need-mul-rows
+mul-rows c = search needs
+
+slice-write-rows : tie.Need-slice-write-rows
+slice-write-rows c = let w = fields-length (c .args .chunk) in omega arith
+
+add-rows : tie.Need-add-rows
+add-rows c = search needs
+
+mul-rows-2 : tie.Need-mul-rows-2
+mul-rows-2 c = search needs
+
+slice-write-rows-2 : tie.Need-slice-write-rows-2
+slice-write-rows-2 c = let w = fields-length (c .args .chunk) in simp length-set (omega arith)
+
+add-rows-2 : tie.Need-add-rows-2
+add-rows-2 c = search needs
+
+mul-rows-3 : tie.Need-mul-rows-3
+mul-rows-3 c = search needs
+
+slice-write-rows-3 : tie.Need-slice-write-rows-3
+slice-write-rows-3 c = let w = fields-length (c .args .chunk) in simp length-set (omega arith)
+
+add-rows-3 : tie.Need-add-rows-3
+add-rows-3 c = search needs
+
+mul-rows-4 : tie.Need-mul-rows-4
+mul-rows-4 c = search needs
+
+slice-write-rows-4 : tie.Need-slice-write-rows-4
+slice-write-rows-4 c = let w = fields-length (c .args .chunk) in simp length-set (omega arith)
+
+add-rows-4 : tie.Need-add-rows-4
+add-rows-4 c = search needs
+
+mul-rows-5 : tie.Need-mul-rows-5
+mul-rows-5 c = search needs
+
+slice-write-rows-5 : tie.Need-slice-write-rows-5
+slice-write-rows-5 c = let w = fields-length (c .args .chunk) in simp length-set (omega arith)
+
+add-rows-5 : tie.Need-add-rows-5
+add-rows-5 c = search needs
+
+mul-rows-6 : tie.Need-mul-rows-6
+mul-rows-6 c = search needs
+
+slice-write-rows-6 : tie.Need-slice-write-rows-6
+slice-write-rows-6 c = let w = fields-length (c .args .chunk) in simp length-set (omega arith)
+
+add-rows-6 : tie.Need-add-rows-6
+add-rows-6 c = search needs
+
+mul-rows-7 : tie.Need-mul-rows-7
+mul-rows-7 c = search needs
+
+slice-write-rows-7 : tie.Need-slice-write-rows-7
+slice-write-rows-7 c = let w = fields-length (c .args .chunk) in simp length-set (omega arith)
+
+add-result : tie.Need-add-result
+add-result c = search needs
+
+same-length : tie.Need-same-length
+same-length c = search needs
+
+returns : tie.Need-returns
+returns c = (rw (fields-length (c .args .chunk)), row-sets (c .args .rows .now) (c .args .at) (c .args .chunk))
+
+pub put-row-spec : {M : Type 1} → statement M
+put-row-spec =
+    tie.close
+    (tie.spec
+    mul-rows
+    slice-write-rows
+    add-rows
+    mul-rows-2
+    slice-write-rows-2
+    add-rows-2
+    mul-rows-3
+    slice-write-rows-3
+    add-rows-3
+    mul-rows-4
+    slice-write-rows-4
+    add-rows-4
+    mul-rows-5
+    slice-write-rows-5
+    add-rows-5
+    mul-rows-6
+    slice-write-rows-6
+    add-rows-6
+    mul-rows-7
+    slice-write-rows-7
+    add-result
+    same-length
+    returns)
