@@ -1,0 +1,6 @@
+pub mod Turns
+pub mod Demand3
+pub mod Written
+pub mod SmallTable
+pub mod Shown
+pub mod Broken

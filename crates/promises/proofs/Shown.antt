@@ -1,0 +1,182 @@
+-- What our detector shows in the small run of specs/Wrong, as literals: computed from the definitions, call by call from literal states. Assumes nothing.
+use mathlib.Core.Path.{_≡_, refl, ap, _∙_}
+use mathlib.Core.Bool.{Bool, true, false, cond}
+use mathlib.Core.List.{List, [], _∷_}
+use Prim.Native.Nat.{ℕ, _+_, _-_, _*_}
+use lib.ListN.{length}
+use lib.Ieee.{Float, binary32, ofBits, ofInt, fits, le, add, sub, mul, div, round, toBits, isNan}
+use Rattle.float.specs.Fused.{fusedOf}
+use Rattle.float.specs.Root.{rootOf, twiceRoot}
+use Rattle.float.specs.Whole.{roundOf, ceilOf}
+use Rattle.score.specs.Score.{scoreOf, reaches, largest}
+use Rattle.ranges.specs.Ranges.{leadingOf, allWithin, inDomain, cleanOf}
+use Rattle.vad_config.specs.Domain.{inUnit, rateIn, durationIn, startIn, receivedIn}
+use Rattle.vad_config.specs.Lengths.{frameLength, frameLengthOf, hopLengthOf, warmupFramesOf, secondsOf, paddingSamplesOf, timeOf, timeOfSampleOf}
+use Rattle.vad_config.specs.Settings.{frameOf, hopOf, warmupOf, paddingOf, lengthsOf, firstOf, framingRefusals, levelRefusals, limitRefusals, refusalOf}
+use Rattle.vad_frames.specs.Emphasis.{coefficientOf, emphasizedOf, emphasized, lastOf}
+use Rattle.vad_frames.specs.Energy.{squareOf, squaresFrom, meanSquareOf, energyOf}
+use Rattle.vad_frames.specs.Grid.{taken, framesFrom, framesOf, energiesOf, consumedOf, framedOf}
+use Rattle.vad_segments.specs.Loudness.{ratioOf, requiredOf, loudOf, inSpeechOf, weightOf, atLeast, floorOf, seedOf}
+use Rattle.vad_segments.specs.Closing.{meanEnergyOf, timeAt, chunkOf, roomOf, reported, talkOf, paddedStart, paddedEnd, tooShort, timedOf, finalizedOf, settledOf, closedBy, closedOf}
+use Rattle.vad_segments.specs.Judging.{flooredTo, activeTo, begunAt, segmentFor, extendedBy, heardOf, pausedBy, pausedOf, floorAfter, turnedOf, judgedOf, frameAt, framesAt, trackAfter, rowsOf, loudsOf, countOf, endedOf, callRows, callTrack}
+use Rattle.vad_segments.specs.Positions.{holdsOf, nextOf, decidedTo, undecidedOf}
+use Rattle.vad_segments.specs.declared.ActiveSegment.{ActiveSegment}
+use Rattle.vad_segments.specs.declared.ActiveSegment.the-variants.{Closed, Open}
+use Rattle.vad_segments.specs.declared.SpeechChunk.{SpeechChunk}
+use Rattle.vad_segments.specs.declared.Track.{Track}
+use Rattle.vad_classify.specs.Classify.{classifiedOf}
+use Rattle.vad_state.specs.State.{windowOf, carriedOf, heldOf, handedIn, sameLengths, settingsSound, carrySound, trackSound, isClosed, heldSound, segmentSound, activeSound, soundOf}
+use Rattle.vad_state.specs.Arrays.{filledOf}
+use Rattle.vad_state.specs.declared.VadDetector.{VadDetector}
+use Rattle.vad_call.specs.Calls.{valuesOf, waitingOf, measuredFrom, measuredOf, consumedFrom, carryAfter, progressOf, holdingWith, holdingOf, keptOf, dueOf, seededOf, gridStart, framesDue, verdictOf, rowsDue, advancedOf, tallyOf, noTally, refusedBy, acceptedOf, tooMany, concludedOf, ranOf, rowsOfCall}
+use Rattle.vad_call.specs.declared.Tally.{Tally}
+use Rattle.vad_detector.specs.Opening.{handedOver, openRefusal, rulesOf, freshTrack, freshOf, openOf, Handed}
+use Rattle.vad_detector.specs.Entries.{checkOf, detectOf, flushOf}
+use Rattle.vad_detector.specs.Readings.{readOf, undecidedIn, undecidedRead, rowsRead, talkRead, openStart, segmentRead}
+use Rattle.promises.specs.Log.{Seen, Turn, isFlush, blockOf, answerOf, loudsOfCall, unlessRefused, seenAs, seenOf, logOf, seenOpened, runOf}
+use Rattle.promises.specs.Wrong.{settings, window, rise, calls, run}
+
+-- ---- the states
+
+-- the floor is 2^-10 after quiet, and 1/2 + 2^-11 after a loud frame
+abbrev floorAt : Bool → Float
+floorAt loud = ofBits binary32 (cond loud 0x3F00_2000 0x3A80_0000)
+
+-- nothing is carried or held between calls, since a block is a frame and the first flush ends the warm-up
+abbrev stateOf : ℕ → ℕ → Bool → Track → VadDetector
+stateOf received last warming track =
+    record {
+      rules = record {
+        config = settings;
+        lengths = record { «frame_length» = 8; «hop_length» = 8; «warmup_frames» = 300; «padding_samples» = 4 };
+        «speech_floor_rise» = rise;
+      };
+      window = filledOf 2048 window;
+      carry = filledOf 2048 [];
+      «carry_len» = 0;
+      «carry_start» = received;
+      «processed_samples» = received;
+      «pre_emphasis_prev» = ofBits binary32 last;
+      warming = warming;
+      warmup = filledOf 300 [];
+      held = 0;
+      track = track;
+    }
+
+-- after so many blocks, warmed up, the last of them loud or not, a last segment end, so many rows, so much talk, and what is open
+abbrev after : ℕ → Bool → ℕ → ℕ → ℕ → ActiveSegment → VadDetector
+after blocks loud ended rows talk active =
+    stateOf (blocks * 8) (cond loud 0x3F80_0000 0x3A80_0000) false
+    record { «noise_floor» = floorAt loud; «last_segment_end» = ended; «rows_reported» = rows; «talk_samples» = talk; «active_segment» = active }
+
+-- an open segment of one loud frame, and the pause in it
+abbrev openAt : ℕ → ℕ → ActiveSegment
+openAt start silence =
+    Open record { «start_sample» = start; «last_end_sample» = start + 8; «score_total» = 1024; «energy_sum» = ofBits binary32 0x3F80_0000; «frame_count» = 1; «silence_run» = silence }
+
+abbrev opened : VadDetector
+opened = stateOf 0 0 true (freshTrack (floorAt false))
+
+-- ---- what is shown
+
+-- a row of one loud frame
+abbrev rowOf : ℕ → ℕ → SpeechChunk
+rowOf from to =
+    record {
+      «start_sample» = from;
+      «end_sample» = to;
+      «start_time» = from * 125000;
+      «end_time» = to * 125000;
+      «score_total» = 1024;
+      «frame_count» = 1;
+      «avg_energy» = 0x3F80_0000;
+    }
+
+-- frames, how many of them are loud, the floor, and how many rows
+abbrev counts : ℕ → ℕ → Float → ℕ → Tally
+counts frames noisy floor rows = record { frames = frames; loud = noisy; quiet = frames - noisy; «noise_floor» = floor; rows = rows }
+
+-- one call: a flush or not, the block's length, the number; the rows, the counts, which frames are loud; then what is read: undecided, rows, talk, segment open, still warming
+abbrev seen : Bool → ℕ → ℕ → List SpeechChunk → Tally → List Bool → ℕ → ℕ → ℕ → Bool → Bool → Seen
+seen flush block number rows tally louds undecided reported talk segment warming =
+    record {
+      flush = flush;
+      block = block;
+      number = number;
+      rows = rows;
+      tally = tally;
+      undecided = undecided;
+      reported = reported;
+      talk = talk;
+      segment = segment;
+      louds = louds;
+      warming = warming;
+    }
+
+-- a block of one frame, loud or not
+abbrev heard : Bool → List SpeechChunk → ℕ → ℕ → ℕ → Bool → Seen
+heard noisy rows undecided reported talk segment =
+    seen false 8 0 rows (counts 1 (cond noisy 1 0) (floorAt noisy) (length rows)) (noisy ∷ []) undecided reported talk segment false
+
+-- the opening
+abbrev first : Seen
+first = seen false 0 0 [] (counts 0 0 (ofBits binary32 0) 0) [] 0 0 0 false true
+
+-- the eight calls
+abbrev later : List Seen
+later =
+    seen true 0 0 [] (counts 0 0 (floorAt false) 0) [] 0 0 0 false false
+    ∷ heard false [] 4 0 0 false
+    ∷ heard true [] 4 0 0 true
+    ∷ heard false [] 4 0 0 true
+    ∷ seen false 8 18 [] (counts 0 0 (ofBits binary32 0) 0) [] 4 0 0 true false
+    ∷ heard false (rowOf 4 20 ∷ []) 28 1 16 false
+    ∷ heard true [] 28 1 16 true
+    ∷ seen true 0 0 (rowOf 28 40 ∷ []) (counts 0 0 (floorAt true) 1) [] 40 2 28 false false
+    ∷ []
+
+abbrev pub shown : List Seen
+shown = first ∷ later
+
+-- ---- call by call
+
+-- from a state on, some calls show this: each leads to a state n
+data Shows : VadDetector → List Turn → List Seen → Type 0 where
+  done : {d : VadDetector} → Shows d [] []
+  call : {d : VadDetector} {k : Turn} {ks : List Turn} {s : Seen} {ss : List Seen} (n : VadDetector) → answerOf d k .detector ≡ n → seenOf d k ≡ s → Shows n ks ss → Shows d (k ∷ ks) (s ∷ ss)
+
+log-of : {d : VadDetector} {ks : List Turn} {ss : List Seen} → Shows d ks ss → logOf d ks ≡ ss
+unfolding logOf
+log-of done = refl
+log-of (call {ks = ks} n next saw rest) = λ i. saw i ∷ (ap (λ e. logOf e ks) next ∙ log-of rest) i
+
+-- the opening, and each call; the fifth is refused and leaves the state as it was
+computed : (openOf settings window rise ≡ record { refusal = 0; detector = opened }) × (seenOpened opened ≡ first) × Shows opened calls later
+unfolding filledOf freshTrack freshOf rulesOf openOf openRefusal handedOver handedIn allWithin refusalOf firstOf framingRefusals levelRefusals limitRefusals lengthsOf frameOf hopOf warmupOf paddingOf frameLength frameLengthOf hopLengthOf warmupFramesOf secondsOf paddingSamplesOf inUnit rateIn durationIn startIn roundOf ceilOf ofBits ofInt le add sub mul div round isNan checkOf cleanOf leadingOf detectOf ranOf concludedOf acceptedOf advancedOf tallyOf refusedBy noTally tooMany roomOf valuesOf waitingOf measuredFrom measuredOf consumedFrom carryAfter progressOf holdingWith holdingOf keptOf dueOf seededOf gridStart framesDue verdictOf rowsDue holdsOf emphasized emphasizedOf coefficientOf lastOf energiesOf energyOf meanSquareOf squaresFrom squareOf framesOf framesFrom taken framedOf consumedOf fusedOf rootOf twiceRoot flooredTo seedOf framesAt callRows callTrack classifiedOf rowsOf trackAfter loudsOf countOf endedOf reported soundOf settingsSound sameLengths carrySound trackSound heldSound activeSound isClosed inDomain windowOf carriedOf heldOf receivedIn rowsOfCall flushOf frameAt judgedOf turnedOf floorAfter pausedOf pausedBy heardOf extendedBy segmentFor begunAt activeTo closedOf closedBy settledOf finalizedOf timedOf tooShort paddedEnd paddedStart talkOf chunkOf timeAt meanEnergyOf floorOf atLeast weightOf inSpeechOf loudOf requiredOf ratioOf scoreOf reaches largest timeOf timeOfSampleOf toBits segmentRead openStart segmentSound seenOf seenAs seenOpened answerOf blockOf isFlush loudsOfCall unlessRefused undecidedRead rowsRead talkRead readOf undecidedIn undecidedOf decidedTo nextOf
+computed = (
+  refl,
+  refl,
+  call (stateOf 0 0 false (freshTrack (floorAt false))) refl refl
+      (call (after 1 false 0 0 0 Closed) refl refl
+      (call (after 2 true 0 0 0 (openAt 8 0)) refl refl
+      (call (after 3 false 0 0 0 (openAt 8 1)) refl refl
+      (call (after 3 false 0 0 0 (openAt 8 1)) refl refl
+      (call (after 4 false 20 1 16 Closed) refl refl
+      (call (after 5 true 20 1 16 (openAt 32 0)) refl refl
+      (call (after 5 true 40 2 28 Closed) refl refl
+      done))))))),
+)
+
+-- the run is one of those that demand 3 speaks of: its opening is accepted, ..
+pub opening-accepted : openOf settings window rise .refusal ≡ 0
+opening-accepted = ap (λ o. o .refusal) (computed .0)
+
+-- .. and its numbers are f32
+pub handed : Handed settings rise
+unfolding ofBits fits
+handed = record { floor-fits = tt; smoothing-fits = tt; rise-fits = tt }
+
+-- what our detector shows in it
+pub run-is : run ≡ shown
+unfolding runOf
+run-is = ap (λ o. runOf (o .detector) calls) (computed .0) ∙ (λ i. computed .1 i ∷ log-of (computed .2) i)

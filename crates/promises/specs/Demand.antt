@@ -1,0 +1,110 @@
+-- Demand 3, sentence by sentence, of what is seen of a run; any detector's log can be held against it.
+use mathlib.Core.Path.{_≡_}
+use mathlib.Core.Bool.{Bool, true, false, not, _&&_, _||_, cond}
+use mathlib.Core.List.{List, [], _∷_, _++_, map, reverse}
+use Prim.Native.Nat.{ℕ, suc, _+_, _*_, _≤_, _<_}
+use lib.Dec.{eqb}
+use lib.ListN.{length, take}
+use Rattle.lists.specs.Every.{Every}
+use Rattle.vad_config.specs.Settings.{frameOf, hopOf, warmupOf, paddingOf}
+use Rattle.vad_config.specs.declared.VadConfig.{VadConfig}
+use Rattle.vad_segments.specs.Closing.{talkOf}
+use Rattle.vad_segments.specs.Judging.{countOf}
+use Rattle.vad_segments.specs.declared.SpeechChunk.{SpeechChunk}
+use Rattle.promises.specs.Log.{Seen}
+
+-- what holds of each call and of the calls before it, the latest of them first
+abbrev pub AtEachAfter : List Seen → (List Seen → Seen → Type 0) → List Seen → Type 0
+AtEachAfter before P [] = Unit {0}
+AtEachAfter before P (s ∷ rest) = P before s × AtEachAfter (s ∷ before) P rest
+
+abbrev pub AtEach : (List Seen → Seen → Type 0) → List Seen → Type 0
+AtEach P run = AtEachAfter [] P run
+
+-- ---- what has come by now
+
+-- the sound received: the blocks of the calls that were not refused
+unfoldable pub soundIn : List Seen → ℕ
+soundIn [] = 0
+soundIn (s ∷ ss) = cond (eqb (s .number) 0) (s .block) 0 + soundIn ss
+
+-- all rows
+unfoldable pub rowsIn : List Seen → List SpeechChunk
+rowsIn [] = []
+rowsIn (s ∷ ss) = s .rows ++ rowsIn ss
+
+-- all frames judged, the latest first: loud or not
+unfoldable pub framesIn : List Seen → List Bool
+framesIn [] = []
+framesIn (s ∷ before) = reverse (s .louds) ++ framesIn before
+
+-- what the calls answered, added up
+unfoldable pub totalOf : (Seen → ℕ) → List Seen → ℕ
+totalOf count [] = 0
+totalOf count (s ∷ ss) = count s + totalOf count ss
+
+-- ---- the sentences
+
+-- 1. 'Rows come out in order and never overlap': each starts where the one before it ended, or later, and ends past its start
+abbrev pub InOrder : ℕ → List SpeechChunk → Type 0
+InOrder from [] = Unit {0}
+InOrder from (r ∷ rs) = (from ≤ r .«start_sample») × (r .«start_sample» < r .«end_sample») × InOrder (r .«end_sample») rs
+
+-- 2. 'They lie within the sound received.'
+abbrev pub Within : List Seen → Seen → Type 0
+Within before s = Every (λ r. r .«end_sample» ≤ soundIn (s ∷ before)) (s .rows)
+
+-- 3. 'No row starts before an undecided position that was given earlier'
+abbrev pub NotBefore : List Seen → Seen → Type 0
+NotBefore before s = Every (λ e. Every (λ r. e .undecided ≤ r .«start_sample») (s .rows)) before
+
+-- 4. 'The undecided position never goes back.'
+abbrev pub Onward : List Seen → Seen → Type 0
+Onward before s = Every (λ e. e .undecided ≤ s .undecided) before
+
+-- 5. 'Once warm-up has ended, with no segment open, it trails the sound received by less than a frame plus the padding.'
+abbrev pub Trails : VadConfig → List Seen → Seen → Type 0
+Trails c before s = s .warming ≡ false → s .segment ≡ false → soundIn (s ∷ before) < s .undecided + (frameOf c + paddingOf c)
+
+-- .. and warm-up ends with the first flush that is not refused, and once as many frames as it counts have been received
+abbrev pub WarmsUp : VadConfig → List Seen → Seen → Type 0
+WarmsUp c before s =
+    s .warming ≡ true
+    → (soundIn (s ∷ before) + hopOf c < frameOf c + warmupOf c * hopOf c) × Every (λ e. (e .flush && eqb (e .number) 0) ≡ false) (s ∷ before)
+
+-- one of these is loud
+unfoldable pub oneLoud : List Bool → Bool
+oneLoud [] = false
+oneLoud (b ∷ bs) = b || oneLoud bs
+
+-- 6. 'A segment is open after a call only if one of the last hangover_frames + 1 frames was loud', of all frames of the run
+abbrev pub LatelyLoud : VadConfig → List Seen → Seen → Type 0
+LatelyLoud c before s = s .segment ≡ true → oneLoud (take (suc (c .«hangover_frames»)) (framesIn (s ∷ before))) ≡ true
+
+-- 'each count that a call answers (frames, loud, quiet, rows, talk) equals the count over the definition's frames and rows', of this call and of the whole run
+pub record Counted (before : List Seen) (s : Seen) : Type 0 where
+  pub frames : s .tally .frames ≡ length (s .louds)
+  pub loud : s .tally .loud ≡ countOf (s .louds)
+  pub quiet : s .tally .quiet ≡ countOf (map not (s .louds))
+  pub rows : s .tally .rows ≡ length (s .rows)
+  pub all-frames : totalOf (λ e. e .tally .frames) (s ∷ before) ≡ length (framesIn (s ∷ before))
+  pub all-loud : totalOf (λ e. e .tally .loud) (s ∷ before) ≡ countOf (framesIn (s ∷ before))
+  pub all-quiet : totalOf (λ e. e .tally .quiet) (s ∷ before) ≡ countOf (map not (framesIn (s ∷ before)))
+  pub all-rows : s .reported ≡ length (rowsIn (s ∷ before))
+  pub all-talk : s .talk ≡ talkOf (rowsIn (s ∷ before))
+
+-- '19 never comes'
+abbrev pub Never19 : List Seen → Seen → Type 0
+Never19 before s = s .number ≡ 19 → ⊥
+
+-- ---- demand 3
+pub record Promised (c : VadConfig) (run : List Seen) : Type 0 where
+  pub in-order : InOrder 0 (rowsIn run)
+  pub within : AtEach Within run
+  pub not-before : AtEach NotBefore run
+  pub onward : AtEach Onward run
+  pub trails : AtEach (Trails c) run
+  pub warms-up : AtEach (WarmsUp c) run
+  pub lately-loud : AtEach (LatelyLoud c) run
+  pub counted : AtEach Counted run
+  pub never-19 : AtEach Never19 run

@@ -1,0 +1,4 @@
+pub mod Log
+pub mod Demand
+pub mod Table
+pub mod Wrong

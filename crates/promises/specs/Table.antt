@@ -1,0 +1,121 @@
+-- Document 01's 'Small table to prove', as one list.
+use mathlib.Core.Path.{_≡_}
+use mathlib.Core.Bool.{false, true}
+use mathlib.Core.List.{List, [], _∷_, _++_, map}
+use Prim.Native.Nat.{ℕ}
+use lib.IntN.{negsuc}
+use lib.ListN.{replicate}
+use lib.Ieee.{Float, fin, inf, binary32, ofBits}
+use Rattle.float.specs.Fused.{fusedOf}
+use Rattle.float.specs.Root.{rootOf}
+use Rattle.float.specs.declared.Rounded.the-variants.{Finite}
+use Rattle.score.specs.Score.{scoreOf}
+use Rattle.vad_config.specs.Lengths.{frameLengthOf, hopLengthOf, warmupFramesOf}
+use Rattle.vad_config.specs.Settings.{refusalOf}
+use Rattle.vad_config.specs.declared.VadConfig.{VadConfig}
+use Rattle.vad_segments.specs.Closing.{flat}
+use Rattle.vad_detector.specs.Opening.{openOf}
+use Rattle.vad_runs.specs.Detector.{config, window, blockOf}
+use Rattle.promises.specs.Log.{Turn, Detect, Flush, logOf}
+
+-- ---- what a line of the table says
+pub data Case : Type 0 where
+  -- a × b + c, rounded once, is r
+  Fused : (a b c r : Float) → Case
+  Root : (x r : Float) → Case
+  -- a frame of so many nanoseconds at a rate has n samples
+  Frame : (ns rate n : ℕ) → Case
+  Hop : (frame : ℕ) (overlap : Float) (n : ℕ) → Case
+  WarmUp : (hop rate n : ℕ) → Case
+  -- settings are refused by a number; 0: accepted
+  Settings : (c : VadConfig) (number : ℕ) → Case
+  Score : (ratio : Float) (n : ℕ) → Case
+  -- six detects and a flush, with a release ratio: no row but at the flush
+  Run : (release : ℕ) (row : List ℕ) → Case
+
+-- 'Six detects of 80 equal samples: 1/64, 1/64, 1, 1, 1/64, 1/64; then flush'; nothing but the flush needs room
+abbrev pub calls : List Turn
+calls = map (λ k. Detect (blockOf k) 0) (0 ∷ 1 ∷ 2 ∷ 3 ∷ 4 ∷ 5 ∷ []) ++ (Flush 7 ∷ [])
+
+-- 'rise 0.5'
+abbrev pub half : Float
+half = ofBits binary32 0x3F00_0000
+
+abbrev pub Reports : ℕ → List ℕ → Type 0
+Reports release row =
+    let opened = openOf (config release) window half in
+    let log = logOf (opened .detector) calls in
+    (opened .refusal ≡ 0) × (map (λ s. s .number) log ≡ replicate 7 0) × (map (λ s. flat (s .rows)) log ≡ replicate 6 [] ++ (row ∷ []))
+
+abbrev pub Holds : Case → Type 0
+Holds (Fused a b c r) = fusedOf a b c ≡ Finite r
+Holds (Root x r) = rootOf x ≡ Finite r
+Holds (Frame ns rate n) = frameLengthOf rate ns ≡ n
+Holds (Hop frame overlap n) = hopLengthOf frame overlap ≡ n
+Holds (WarmUp hop rate n) = warmupFramesOf hop rate ≡ n
+Holds (Settings c number) = refusalOf c ≡ number
+Holds (Score ratio n) = scoreOf ratio ≡ n
+Holds (Run release row) = Reports release row
+
+-- ---- the numbers: a fraction by its exact value, or by its bits
+
+-- 1 + 2^-12, −(1 + 2^-11), 2^-24, 2^-60, 1 + 2^-11 + 2^-23
+abbrev pub onePlus12 : Float
+onePlus12 = fin false 4097 (negsuc 11)
+
+abbrev pub minusOnePlus11 : Float
+minusOnePlus11 = fin true 2049 (negsuc 10)
+
+abbrev pub power24 : Float
+power24 = fin false 1 (negsuc 23)
+
+abbrev pub power60 : Float
+power60 = fin false 1 (negsuc 59)
+
+abbrev pub onePlus11Plus23 : Float
+onePlus11Plus23 = fin false 8392705 (negsuc 22)
+
+-- run A's settings but for the frame's duration and the release ratio: 1 ms at 8 kHz are 8 samples, 875 µs are 7
+abbrev pub framed : ℕ → Float → VadConfig
+framed ns release =
+    record {
+      «sample_rate» = 8000;
+      «frame_duration» = ns;
+      «frame_overlap» = ofBits binary32 0;
+      «has_pre_emphasis» = false;
+      «pre_emphasis» = ofBits binary32 0;
+      «activation_ratio» = ofBits binary32 0x4080_0000;
+      «release_ratio» = release;
+      «min_speech_energy» = ofBits binary32 0;
+      «noise_smoothing» = ofBits binary32 0;
+      «energy_floor» = ofBits binary32 0x3A80_0000;
+      «hangover_frames» = 1;
+      «speech_padding» = 5000000;
+      «min_speech_frames» = 1;
+      «stream_start_time» = 0;
+    }
+
+abbrev pub two : Float
+two = ofBits binary32 0x4000_0000
+
+-- ---- the table, in document 01's order
+abbrev pub smallTable : List Case
+smallTable =
+    Fused onePlus12 onePlus12 minusOnePlus11 power24
+    ∷ Fused onePlus12 onePlus12 power60 onePlus11Plus23
+    ∷ Root (ofBits binary32 0) (ofBits binary32 0)
+    ∷ Root two (ofBits binary32 0x3FB5_04F3)
+    ∷ Frame 20000000 16000 320
+    ∷ Hop 320 half 160
+    ∷ WarmUp 160 16000 30
+    ∷ Hop 5 half 3
+    ∷ Settings (framed 10000000 (inf false)) 6
+    ∷ Score (ofBits binary32 0x3F80_0000) 0
+    ∷ Score (ofBits binary32 0x4120_0000) 1024
+    ∷ WarmUp 8 8000 300
+    ∷ Settings (framed 1000000 two) 0
+    ∷ WarmUp 7 8000 343
+    ∷ Settings (framed 875000 two) 12
+    ∷ Run 0x4000_0000 (120 ∷ 280 ∷ 15000000 ∷ 35000000 ∷ 1024 ∷ 1 ∷ 1065353216 ∷ [])
+    ∷ Run 0x3FC0_0000 (120 ∷ 360 ∷ 15000000 ∷ 45000000 ∷ 1325 ∷ 2 ∷ 1065353216 ∷ [])
+    ∷ []
