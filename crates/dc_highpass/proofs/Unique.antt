@@ -6,7 +6,7 @@ use lib.Ieee.{Float}
 use Rattle.float.proofs.Unique.{only}
 use Rattle.dc_state.specs.declared.PreprocessingConfig.{PreprocessingConfig}
 use Rattle.dc_state.specs.declared.DcHighPassFilter.{DcHighPassFilter}
-use Rattle.dc_highpass.specs.Filter.{openOf, processOf, outputAfter, resetOf, biasRead}
+use Rattle.dc_highpass.specs.Filter.{nothingOpen, openOf, processOf, outputAfter, resetOf, biasRead}
 use Rattle.dc_highpass.specs.declared.VadContext.{VadContext}
 use Rattle.dc_highpass.specs.declared.Opened.{Opened}
 use Rattle.dc_highpass.specs.declared.Processed.{Processed}
@@ -26,3 +26,6 @@ reset-unique f r q = only
 
 pub bias-unique : (f : DcHighPassFilter) (r q : Reading) → r ≡ biasRead f → q ≡ biasRead f → r ≡ q
 bias-unique f r q = only
+
+pub nothing-unique : (r q : DcHighPassFilter) → r ≡ nothingOpen → q ≡ nothingOpen → r ≡ q
+nothing-unique r q = only

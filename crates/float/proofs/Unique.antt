@@ -1,8 +1,12 @@
 -- Two answers that meet a contract are equal: each contract here is an equation of the answer.
 use mathlib.Core.Path.{_≡_, sym, _∙_}
+use mathlib.Core.Bool.{Bool}
 use Prim.Native.Nat.{ℕ}
-use lib.Ieee.{Float}
+use lib.IntN.{pos}
+use lib.Ieee.{Float, binary32, ofBits, toBits, ofInt}
+use lib.Ieee.Scale.{finite}
 use Rattle.float.specs.declared.Rounded.{Rounded}
+use Rattle.float.specs.Finite.{orZero}
 use Rattle.float.specs.Fused.{fusedOf}
 use Rattle.float.specs.Root.{rootOf}
 use Rattle.float.specs.Whole.{roundOf, ceilOf}
@@ -22,3 +26,18 @@ round-unique x r q = only
 
 pub ceil-unique : (x : Float) (r q : ℕ) → r ≡ ceilOf x → q ≡ ceilOf x → r ≡ q
 ceil-unique x r q = only
+
+pub nearest-unique : (n : ℕ) (r q : Float) → r ≡ ofInt binary32 (pos n) → q ≡ ofInt binary32 (pos n) → r ≡ q
+nearest-unique n r q = only
+
+pub or-zero-unique : (x : Rounded) (r q : Float) → r ≡ orZero x → q ≡ orZero x → r ≡ q
+or-zero-unique x r q = only
+
+pub is-finite-unique : (x : Float) (r q : Bool) → r ≡ finite x → q ≡ finite x → r ≡ q
+is-finite-unique x r q = only
+
+pub from-bits-unique : (bits : ℕ) (r q : Float) → r ≡ ofBits binary32 bits → q ≡ ofBits binary32 bits → r ≡ q
+from-bits-unique bits r q = only
+
+pub to-bits-unique : (x : Float) (r q : ℕ) → r ≡ toBits binary32 x → q ≡ toBits binary32 x → r ≡ q
+to-bits-unique x r q = only

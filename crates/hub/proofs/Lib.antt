@@ -3,3 +3,4 @@ pub mod Places
 pub mod Door
 pub mod RoundTrip
 pub mod Carried
+pub mod Unique

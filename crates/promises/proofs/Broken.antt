@@ -1,21 +1,29 @@
--- Demand 3 says something: each wrong detector of specs/Wrong breaks its sentence in the small run. Assumes nothing.
-use mathlib.Core.Path.{_≡_, refl, sym, subst}
+-- Demand 3 says something: each wrong detector of specs/Wrong breaks its sentence in the run of specs/Example, and ours keeps all of them there. Assumes nothing.
+use mathlib.Core.Path.{_≡_, refl, sym, ap, subst}
 use mathlib.Core.Bool.{true≢false}
 use mathlib.Core.List.{List, [], _∷_}
 use Prim.Native.Nat.{_≤_}
 use native.Mathlib.Omega.{arith}
-use lib.Ieee.{ofBits, ofInt, add, sub, mul, div, neg, sum, round}
-use Rattle.float.specs.Whole.{roundOf, ceilOf}
+use lib.ListN.{length}
+use lib.Ieee.{ofInt, add, mul, div, round}
+use Rattle.float.specs.Whole.{roundOf}
 use Rattle.lists.specs.Every.{Every, every-map, every-all}
 use Rattle.vad_config.specs.Domain.{rateIn, durationIn}
-use Rattle.vad_config.specs.Lengths.{frameLength, frameLengthOf, hopLengthOf, warmupFramesOf, secondsOf, paddingSamplesOf}
-use Rattle.vad_config.specs.Settings.{frameOf, hopOf, warmupOf, paddingOf}
+use Rattle.vad_config.specs.Lengths.{frameLength, frameLengthOf, secondsOf, paddingSamplesOf}
+use Rattle.vad_config.specs.Settings.{frameOf, paddingOf}
 use Rattle.vad_segments.specs.Closing.{talkOf}
 use Rattle.vad_segments.specs.Judging.{countOf}
+use Rattle.vad_segments.specs.declared.SpeechChunk.{SpeechChunk}
 use Rattle.promises.specs.Log.{Seen}
-use Rattle.promises.specs.Demand.{AtEachAfter, AtEach, soundIn, rowsIn, framesIn, InOrder, Within, NotBefore, Onward, Trails, WarmsUp, oneLoud, LatelyLoud, Counted, Never19, Promised}
-use Rattle.promises.specs.Wrong.{changedAfter, changed, answers, reads, lastRows, writesTwice, longer, padsOn, forgetsPadding, fallsBack, staysAtZero, warmsForEver, lastOpen, closesLate, allLoud, rowsByCalls, talkTooLong, breaksDown, wrong, holdsOn, settings, run}
-use Rattle.promises.proofs.Shown.{shown, run-is}
+use Rattle.promises.specs.Demand.{AtEachAfter, AtEach, soundIn, rowsIn, loudsIn, flushedIn, InOrder, Within, NotBefore, Onward, warmedUp, Trails, oneLoud, LatelyLoud, Counted, Never19, Promised}
+use Rattle.promises.specs.Example.{settings, window, rise, calls, run, shown}
+use Rattle.promises.specs.Wrong.{changedAfter, changed, answers, reads, counting, lastRows, writesTwice, longer, padsOn, forgetsPadding, fallsBack, staysAtZero, lastOpen, closesLate, countsRefused, allLoud, rowsSoFar, rowsByCalls, talkTooLong, hearsNobody, breaksDown, wrong}
+use Rattle.promises.proofs.Demand3.{demand-3}
+use Rattle.promises.proofs.Shown.{opening-accepted, handed, run-is}
+
+-- ours keeps every sentence in this very run
+pub ours-promised : Promised settings run
+ours-promised = demand-3 settings window rise calls opening-accepted handed
 
 -- what fails of the literals fails of the run
 fails : (P : List Seen → Type 0) → (P shown → ⊥) → P run → ⊥
@@ -35,9 +43,9 @@ pub pads-on : AtEach Within (changed padsOn run) → ⊥
 unfolding changed changedAfter padsOn longer answers soundIn
 pads-on = fails-at Within padsOn (λ h. omega arith)
 
--- 3. after the loud block it gives 8, and then comes the row that starts at 4
+-- 3. after the first block it gives 8, and then comes the row that starts at 4
 pub forgets-padding : AtEach NotBefore (changed forgetsPadding run) → ⊥
-unfolding changed changedAfter forgetsPadding reads
+unfolding changed changedAfter forgetsPadding reads soundIn
 forgets-padding = fails-at NotBefore forgetsPadding (λ h. omega arith)
 
 -- 4. the refused call sends 4 back to 0
@@ -52,28 +60,28 @@ padding = refl
 
 -- 5. with the first row 32 samples were received, and no segment is open: 32 is not below 0 + 8 + 4
 pub stays-at-zero : AtEach (Trails settings) (changed staysAtZero run) → ⊥
-unfolding changed changedAfter staysAtZero reads soundIn frameOf frameLength frameLengthOf rateIn durationIn
+unfolding changed changedAfter staysAtZero reads soundIn flushedIn warmedUp frameOf frameLength frameLengthOf rateIn durationIn
 stays-at-zero = fails-at (Trails settings) staysAtZero (λ h. omega (arith, h .1 .1 .1 .1 .1 .1 .0 refl refl, padding))
-
--- .. it still warms up after a flush
-pub warms-for-ever : AtEach (WarmsUp settings) (changed warmsForEver run) → ⊥
-unfolding changed changedAfter warmsForEver reads
-warms-for-ever = fails-at (WarmsUp settings) warmsForEver (λ h. true≢false (h .1 .0 refl .1 .0))
-
--- .. the first 2,400 samples have the warm-up's 300 frames
-pub holds-on : AtEach (WarmsUp settings) holdsOn → ⊥
-unfolding soundIn frameOf frameLength frameLengthOf hopOf hopLengthOf warmupOf warmupFramesOf rateIn durationIn roundOf ceilOf ofInt ofBits add sub mul div sum neg round
-holds-on h = omega (arith, h .1 .1 .0 refl .0)
 
 -- 6. two quiet frames, and its segment is still open
 pub closes-late : AtEach (LatelyLoud settings) (changed closesLate run) → ⊥
-unfolding changed changedAfter closesLate lastOpen reads framesIn oneLoud
+unfolding changed changedAfter closesLate lastOpen reads loudsIn oneLoud
 closes-late = fails-at (LatelyLoud settings) closesLate (λ h. true≢false (sym (h .1 .1 .1 .1 .1 .1 .0 refl)))
 
--- the first frame is not loud, ..
+-- the refused call judges no frame, ..
+pub counts-refused : AtEach Counted (changed countsRefused run) → ⊥
+unfolding changed changedAfter countsRefused counting answers
+counts-refused = fails-at Counted countsRefused (λ h. omega arith)
+
+-- .. the first frame is not loud, ..
 pub all-loud : AtEach Counted (changed allLoud run) → ⊥
-unfolding changed changedAfter allLoud answers countOf
+unfolding changed changedAfter allLoud counting answers countOf
 all-loud = fails-at Counted allLoud (λ h. omega arith)
+
+-- .. the block after the first row writes none, ..
+pub rows-so-far : AtEach Counted (changed rowsSoFar run) → ⊥
+unfolding changed changedAfter rowsSoFar counting answers
+rows-so-far = fails-at Counted rowsSoFar (λ h. omega arith)
 
 -- .. the first flush writes no row, ..
 pub rows-by-calls : AtEach Counted (changed rowsByCalls run) → ⊥
@@ -85,17 +93,25 @@ pub talk-too-long : AtEach Counted (changed talkTooLong run) → ⊥
 unfolding changed changedAfter talkTooLong reads rowsIn talkOf
 talk-too-long = fails-at Counted talkTooLong (λ h. omega arith)
 
--- with the first row it answers 19
+-- the definition has a row
+pub hears-nobody : AtEach Counted (changed hearsNobody run) → ⊥
+unfolding changed changedAfter hearsNobody counting answers reads
+hears-nobody = fails-at Counted hearsNobody (λ h. absurd (none (h .1 .1 .1 .1 .1 .1 .0 .written)))
+  where
+    none : {r : SpeechChunk} {rs : List SpeechChunk} → [] ≡ r ∷ rs → ⊥
+    none e = omega (arith, ap length e)
+
+-- the call after the first row answers 19
 pub breaks-down : AtEach Never19 (changed breaksDown run) → ⊥
-unfolding changed changedAfter breaksDown answers
-breaks-down = fails-at Never19 breaksDown (λ h. h .1 .1 .1 .1 .1 .1 .0 refl)
+unfolding changed changedAfter breaksDown answers rowsIn
+breaks-down = fails-at Never19 breaksDown (λ h. h .1 .1 .1 .1 .1 .1 .1 .0 .0 refl)
 
 -- ---- so demand 3 is true of none of them
 
 -- each fails by the sentence that it breaks
 pub none-promised : Every (λ f. Promised settings (changed f run) → ⊥) wrong
 none-promised =
-    (λ p. writes-twice (p .in-order), (λ p. pads-on (p .within), (λ p. forgets-padding (p .not-before), (λ p. falls-back (p .onward), (λ p. stays-at-zero (p .trails), (λ p. warms-for-ever (p .warms-up), (λ p. closes-late (p .lately-loud), (λ p. all-loud (p .counted), (λ p. rows-by-calls (p .counted), (λ p. talk-too-long (p .counted), (λ p. breaks-down (p .never-19), tt)))))))))))
+    (λ p. writes-twice (p .in-order), (λ p. pads-on (p .within), (λ p. forgets-padding (p .not-before), (λ p. falls-back (p .onward), (λ p. stays-at-zero (p .trails), (λ p. closes-late (p .lately-loud), (λ p. counts-refused (p .counted), (λ p. all-loud (p .counted), (λ p. rows-so-far (p .counted), (λ p. rows-by-calls (p .counted), (λ p. talk-too-long (p .counted), (λ p. hears-nobody (p .counted), (λ p. breaks-down (p .never-19), tt)))))))))))))
 
 -- ---- sentence 5 is needed: of what stays at 0, in any run, sentences 3 and 4 are true
 module _ (P : List Seen → Seen → Type 0) (kept : (before : List Seen) (s : Seen) → Every (λ e. e .undecided ≡ 0) before → P before s) where

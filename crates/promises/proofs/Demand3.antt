@@ -1,16 +1,16 @@
 -- Demand 3: from an accepted opening, and from any accepted reset, every run of detect and flush keeps each of its sentences. Assumes nothing.
 use mathlib.Core.Path.{_≡_, refl, sym, ap, _∙_, subst}
 use mathlib.Core.Logic.{⊎-elim}
-use mathlib.Core.Bool.{Bool, true, false, not, _&&_, true≢false}
+use mathlib.Core.Bool.{Bool, true, false, not, true≢false}
 use mathlib.Core.List.{List, [], _∷_, _++_, map, reverse, reverseAux, reverseAux-eq}
 use Prim.Native.Nat.{ℕ, zero, suc, _+_, _*_, _≤_, _<_}
 use native.Mathlib.Nat.{le-trans, suc-mul, mul-le-mul-right}
 use native.Mathlib.Omega.{arith}
-use lib.Dec.{eqb}
+use borrow.Author.Tests.{lt-leb}
 use lib.ListN.{length, take, getD, length-append}
 use lib.Ieee.{Float}
 use Rattle.lists.specs.Every.{Every, every-map}
-use Rattle.vad_config.specs.Settings.{lengthsOf}
+use Rattle.vad_config.specs.Settings.{frameOf, paddingOf, lengthsOf}
 use Rattle.vad_config.specs.declared.VadConfig.{VadConfig}
 use Rattle.vad_config.specs.declared.Lengths.{Lengths}
 use Rattle.vad_segments.specs.Closing.{talkOf}
@@ -20,17 +20,19 @@ use Rattle.vad_segments.specs.declared.Rules.{Rules}
 use Rattle.vad_segments.specs.declared.ActiveSegment.{ActiveSegment}
 use Rattle.vad_segments.specs.declared.ActiveSegment.the-variants.{Closed, Open}
 use Rattle.vad_segments.specs.declared.SpeechChunk.{SpeechChunk}
+use Rattle.vad_segments.specs.declared.Track.{Track}
 use Rattle.vad_segments.proofs.Ordered.{talk-append, in-order-ends, InOrder as Between}
 use Rattle.vad_segments.proofs.Counts.{ActiveCounted, Recent}
 use Rattle.vad_segments.proofs.Undecided.{undecided-trails}
 use Rattle.vad_state.specs.declared.VadDetector.{VadDetector}
-use Rattle.vad_detector.specs.Opening.{rulesOf, freshTrack, freshOf, openOf, Handed, resetTo, resetOf}
+use Rattle.vad_call.specs.Calls.{advancedOf}
+use Rattle.vad_detector.specs.Opening.{rulesOf, freshTrack, freshOf, openOf, Handed, restartedOf, resetTo, resetOf}
 use Rattle.vad_detector.specs.Readings.{undecidedIn, openStart}
-use Rattle.vad_detector.specs.Run.{Call, play}
+use Rattle.vad_detector.specs.Run.{Call, Detect, Flush, Reset, next, play}
 use Rattle.vad_detector.proofs.Running.{Running}
-use Rattle.vad_detector.proofs.Runs.{opened-is, open-running, reset-ends, reset-running, run-running}
+use Rattle.vad_detector.proofs.Runs.{opened-is, open-running, detect-ends, flush-ends, reset-ends, reset-running, run-running}
 use Rattle.promises.specs.Log.{Turn, Seen, answerOf, seenOf, logOf, seenOpened, runOf}
-use Rattle.promises.specs.Demand.{AtEachAfter, AtEach, soundIn, rowsIn, framesIn, totalOf, InOrder, Within, NotBefore, Onward, Trails, WarmsUp, oneLoud, LatelyLoud, Counted, Never19, Promised}
+use Rattle.promises.specs.Demand.{AtEachAfter, AtEach, soundIn, rowsIn, loudsIn, flushedIn, totalOf, InOrder, Within, NotBefore, Onward, warmedUp, Trails, oneLoud, LatelyLoud, Counted, Never19, Promised}
 use Rattle.promises.proofs.Turns.{Moves, opened-moves, turn-moves}
 
 -- ---- flags, the latest first
@@ -87,28 +89,28 @@ record Story (c : VadConfig) (before : List Seen) (d : VadDetector) : Type 0 whe
   settings : d .rules .config ≡ c
   sound : soundIn before ≡ d .«processed_samples»
   given : Every (λ e. e .undecided ≤ undecidedIn d) before
-  unflushed : d .warming ≡ true → Every (λ e. (e .flush && eqb (e .number) 0) ≡ false) before
-  recent : Recent (framesIn before) (d .track .«active_segment»)
-  frames : totalOf (λ e. e .tally .frames) before ≡ length (framesIn before)
-  loud : totalOf (λ e. e .tally .loud) before ≡ countOf (framesIn before)
-  quiet : totalOf (λ e. e .tally .quiet) before ≡ countOf (map not (framesIn before))
+  unflushed : d .warming ≡ true → flushedIn before ≡ false
+  recent : Recent (loudsIn before) (d .track .«active_segment»)
+  frames : totalOf (λ e. e .tally .frames) before ≡ length (loudsIn before)
+  loud : totalOf (λ e. e .tally .loud) before ≡ countOf (loudsIn before)
+  quiet : totalOf (λ e. e .tally .quiet) before ≡ countOf (map not (loudsIn before))
   rows : d .track .«rows_reported» ≡ length (rowsIn before)
   talk : d .track .«talk_samples» ≡ talkOf (rowsIn before)
 
 module _ (c : VadConfig) (before : List Seen) (d e : VadDetector) (s : Seen) (k : Story c before d) (m : Moves d e s) where
   -- a call goes on with it
   on : Story c (s ∷ before) e
-  unfolding soundIn framesIn rowsIn totalOf countOf
+  unfolding soundIn loudsIn flushedIn rowsIn totalOf countOf
   on = record {
     running = m .running;
     settings = ap (λ (r : Rules). r .config) (m .rules) ∙ k .settings;
     sound = omega (arith, k .sound, m .sound);
     given = (omega (arith, m .shown .undecided), every-map _ _ (λ g l. omega (arith, m .onward)) before (k .given));
-    unflushed = λ w. let still = m .warming w in (still .1, k .unflushed (still .0));
-    recent = rw (sym (reverseAux-eq (s .louds) (framesIn before))) (m .recent (framesIn before) (k .recent));
-    frames = omega (arith, k .frames, m .frames, added length (λ b. 1) refl (λ b bs. omega arith) (s .louds) (framesIn before));
-    loud = omega (arith, k .loud, m .loud, added countOf (λ b. countOf (b ∷ [])) refl (λ b bs. omega arith) (s .louds) (framesIn before));
-    quiet = omega (arith, k .quiet, m .quiet, added (λ bs. countOf (map not bs)) (λ b. countOf (not b ∷ [])) refl (λ b bs. omega arith) (s .louds) (framesIn before));
+    unflushed = λ w. let still = m .warming w in rw (still .1) (k .unflushed (still .0));
+    recent = rw (sym (reverseAux-eq (s .louds) (loudsIn before))) (m .recent (loudsIn before) (k .recent));
+    frames = omega (arith, k .frames, m .frames, added length (λ b. 1) refl (λ b bs. omega arith) (s .louds) (loudsIn before));
+    loud = omega (arith, k .loud, m .loud, added countOf (λ b. countOf (b ∷ [])) refl (λ b bs. omega arith) (s .louds) (loudsIn before));
+    quiet = omega (arith, k .quiet, m .quiet, added (λ bs. countOf (map not bs)) (λ b. countOf (not b ∷ [])) refl (λ b bs. omega arith) (s .louds) (loudsIn before));
     rows = omega (arith, k .rows, m .all-rows, length-append (s .rows) (rowsIn before));
     talk = omega (arith, k .talk, m .all-talk, talk-append (s .rows) (rowsIn before));
   }
@@ -126,34 +128,41 @@ module _ (c : VadConfig) (before : List Seen) (d e : VadDetector) (s : Seen) (k 
   onward : Onward before s
   onward = every-map _ _ (λ g l. omega (arith, m .onward, m .shown .undecided)) before (k .given)
 
-  -- fewer samples than a frame are carried
+  -- while frames are held, they lie hop by hop from the stream's start, and are fewer than the warm-up's; so warm-up has not ended
+  warm : e .warming ≡ true → warmedUp c (s ∷ before) ≡ false
+  unfolding warmedUp lengthsOf
+  warm w =
+      let held = m .running .held w in
+      let hop = e .rules .lengths .«hop_length» in
+      let most : suc (e .held) * hop ≤ e .rules .lengths .«warmup_frames» * hop = mul-le-mul-right hop (held .few) in
+      let few = subst (λ (l : Lengths). soundIn (s ∷ before) + l .«hop_length» < l .«frame_length» + l .«warmup_frames» * l .«hop_length») lengths-on
+      (omega (arith, suc-mul (e .held) hop, held .start, on .sound, m .running .joined, m .running .short)) in
+      rw (on .unflushed w, lt-leb _ _ few)
+
+  -- afterwards fewer samples than a frame are carried
   trails : Trails c before s
   unfolding undecidedIn lengthsOf
-  trails off none =
-      let t = e .track in
-      let padding = e .rules .lengths .«padding_samples» in
-      let position : s .undecided ≡ undecidedOf false padding (e .«carry_start») t = m .shown .undecided ∙ ap (λ (b : Bool). undecidedOf b padding (e .«carry_start») t) (sym (m .shown .warming) ∙ off) in
-      let free = undecided-trails padding (e .«carry_start») t (e .«carry_len») (e .rules .lengths .«frame_length») (not-open (t .«active_segment») (sym (m .shown .segment) ∙ none)) (m .running .short) in
-      subst (λ (l : Lengths). soundIn (s ∷ before) < s .undecided + (l .«frame_length» + l .«padding_samples»)) lengths-on (omega (arith, on .sound, m .running .joined))
+  trails warmed none = go (e .warming) refl
+    where
+      t : Track
+      t = e .track
 
-  -- the frames held lie hop by hop from the stream's start, and are fewer than the warm-up's
-  warms-up : WarmsUp c before s
-  unfolding lengthsOf
-  warms-up w =
-      let still = sym (m .shown .warming) ∙ w in
-      let held = m .running .held still in
-      let hop = e .rules .lengths .«hop_length» in
-      let most : suc (e .held) * hop ≤ e .rules .lengths .«warmup_frames» * hop = mul-le-mul-right hop (held .few) in (
-        subst (λ (l : Lengths). soundIn (s ∷ before) + l .«hop_length» < l .«frame_length» + l .«warmup_frames» * l .«hop_length») lengths-on
-            (omega (arith, suc-mul (e .held) hop, held .start, on .sound, m .running .joined, m .running .short)),
-        on .unflushed still,
-      )
+      padding : ℕ
+      padding = e .rules .lengths .«padding_samples»
+
+      go : (b : Bool) → e .warming ≡ b → soundIn (s ∷ before) < s .undecided + (frameOf c + paddingOf c)
+      go true w = absurd (true≢false (sym warmed ∙ warm w))
+      go false off =
+          let position : s .undecided ≡ undecidedOf false padding (e .«carry_start») t = m .shown .undecided ∙ ap (λ (b : Bool). undecidedOf b padding (e .«carry_start») t) off in
+          let free = undecided-trails padding (e .«carry_start») t (e .«carry_len») (e .rules .lengths .«frame_length») (not-open (t .«active_segment») (sym (m .shown .segment) ∙ none)) (m .running .short) in
+          subst (λ (l : Lengths). soundIn (s ∷ before) < s .undecided + (l .«frame_length» + l .«padding_samples»)) lengths-on (omega (arith, on .sound, m .running .joined))
 
   lately-loud : LatelyLoud c before s
-  lately-loud o = rw (sym (on .settings)) (lately (e .rules .config .«hangover_frames») (framesIn (s ∷ before)) (e .track .«active_segment») (m .running .counted) (on .recent) (sym (m .shown .segment) ∙ o))
+  lately-loud o = rw (sym (on .settings)) (lately (e .rules .config .«hangover_frames») (loudsIn (s ∷ before)) (e .track .«active_segment») (m .running .counted) (on .recent) (sym (m .shown .segment) ∙ o))
 
   counted : Counted before s
   counted = record {
+    written = m .written;
     frames = m .frames;
     loud = m .loud;
     quiet = m .quiet;
@@ -188,23 +197,22 @@ promised c d ks h = record {
   not-before = at-each c NotBefore (not-before c) ks d h;
   onward = at-each c Onward (onward c) ks d h;
   trails = at-each c (Trails c) (trails c) ks d h;
-  warms-up = at-each c (WarmsUp c) (warms-up c) ks d h;
   lately-loud = at-each c (LatelyLoud c) (lately-loud c) ks d h;
   counted = at-each c Counted (counted c) ks d h;
-  never-19 = at-each c Never19 (λ before d e s k m. m .never-19) ks d h;
+  never-19 = at-each c Never19 (λ before d e s k m. (m .never-19, m .shown .readings)) ks d h;
 }
 
 -- ---- a fresh state
 
 -- nothing was heard, and nothing seen
 fresh-story : (r : Rules) (window : List Float) (d : VadDetector) → d ≡ freshOf r window → Running d → Story (d .rules .config) [] d
-unfolding freshOf freshTrack soundIn framesIn rowsIn totalOf countOf talkOf
+unfolding freshOf freshTrack soundIn loudsIn flushedIn rowsIn totalOf countOf talkOf
 fresh-story r window d e running = record {
   running = running;
   settings = refl;
   sound = rw e;
   given = tt;
-  unflushed = λ w. tt;
+  unflushed = λ w. refl;
   recent = rw e tt;
   frames = refl;
   loud = refl;
@@ -221,13 +229,35 @@ demand-3 c window rise ks z f =
     let e = opened-is c window rise z in
     subst (λ (s : VadConfig). Promised s (runOf d ks)) (ap (λ (x : VadDetector). x .rules .config) e) (promised (d .rules .config) d ks (fresh-story (rulesOf c rise) window d e (open-running c window rise z f)))
 
--- .. and from any accepted reset, which is a fresh start: its settings have the new stream start
+-- ---- after a reset
+
+-- calls keep the settings, but for the stream's start
+next-settings : (d : VadDetector) (k : Call) (start : ℕ) → restartedOf (next d k .rules .config) start ≡ restartedOf (d .rules .config) start
+unfolding next advancedOf resetTo freshOf restartedOf
+next-settings d k start = go k
+  where
+    same : VadDetector → VadConfig
+    same e = restartedOf (e .rules .config) start
+
+    go : (k : Call) → same (next d k) ≡ same d
+    go (Detect xs room) = ⊎-elim (λ e. ap same (e .2)) (λ e. ap same (e .1)) (detect-ends d xs room)
+    go (Flush room) = ⊎-elim (λ e. ap same (e .2)) (λ e. ap same (e .1)) (flush-ends d room)
+    go (Reset new) = ⊎-elim (λ e. ap same (e .2)) (λ e. ap same (e .1)) (reset-ends d new)
+
+play-settings : (cs : List Call) (d : VadDetector) (start : ℕ) → restartedOf (play d cs .rules .config) start ≡ restartedOf (d .rules .config) start
+unfolding play
+play-settings [] d start = refl
+play-settings (k ∷ cs) d start = play-settings cs (next d k) start ∙ next-settings d k start
+
+-- from any accepted reset of a run, too: a fresh start with the settings of the opening and a new stream start
 pub demand-3-again : (c : VadConfig) (window : List Float) (rise : Float) (cs : List Call) (start : ℕ) (ks : List Turn) → openOf c window rise .refusal ≡ 0 → Handed c rise
-    → resetOf (play (openOf c window rise .detector) cs) start .refusal ≡ 0
-    → Promised (resetOf (play (openOf c window rise .detector) cs) start .detector .rules .config) (runOf (resetOf (play (openOf c window rise .detector) cs) start .detector) ks)
-unfolding resetTo
+    → resetOf (play (openOf c window rise .detector) cs) start .refusal ≡ 0 → Promised (restartedOf c start) (runOf (resetOf (play (openOf c window rise .detector) cs) start .detector) ks)
+unfolding resetTo freshOf rulesOf
 demand-3-again c window rise cs start ks z f a =
-    let d = play (openOf c window rise .detector) cs in
+    let o = openOf c window rise .detector in
+    let d = play o cs in
     let e = resetOf d start .detector in
     let r = reset-running d start (run-running c window rise cs z f) in
-    promised (e .rules .config) e ks (⊎-elim (λ k. fresh-story _ _ e (k .2) r) (λ k. absurd (k .0 a)) (reset-ends d start))
+    let new : e ≡ resetTo d start = ⊎-elim (λ k. k .2) (λ k. absurd (k .0 a)) (reset-ends d start) in
+    let settings : e .rules .config ≡ restartedOf c start = ap (λ (x : VadDetector). x .rules .config) new ∙ play-settings cs o start ∙ ap (λ (x : VadDetector). restartedOf (x .rules .config) start) (opened-is c window rise z) in
+    subst (λ (x : VadConfig). Promised x (runOf e ks)) settings (promised (e .rules .config) e ks (fresh-story _ _ e new r))

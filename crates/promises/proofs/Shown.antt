@@ -1,10 +1,9 @@
--- What our detector shows in the small run of specs/Wrong, as literals: computed from the definitions, call by call from literal states. Assumes nothing.
+-- Our detector shows in the run of specs/Example what is written there: computed from the definitions, call by call from literal states. Assumes nothing.
 use mathlib.Core.Path.{_≡_, refl, ap, _∙_}
 use mathlib.Core.Bool.{Bool, true, false, cond}
 use mathlib.Core.List.{List, [], _∷_}
 use Prim.Native.Nat.{ℕ, _+_, _-_, _*_}
-use lib.ListN.{length}
-use lib.Ieee.{Float, binary32, ofBits, ofInt, fits, le, add, sub, mul, div, round, toBits, isNan}
+use lib.Ieee.{binary32, ofBits, ofInt, fits, le, add, sub, mul, div, round, toBits, isNan}
 use Rattle.float.specs.Fused.{fusedOf}
 use Rattle.float.specs.Root.{rootOf, twiceRoot}
 use Rattle.float.specs.Whole.{roundOf, ceilOf}
@@ -22,25 +21,19 @@ use Rattle.vad_segments.specs.Judging.{flooredTo, activeTo, begunAt, segmentFor
 use Rattle.vad_segments.specs.Positions.{holdsOf, nextOf, decidedTo, undecidedOf}
 use Rattle.vad_segments.specs.declared.ActiveSegment.{ActiveSegment}
 use Rattle.vad_segments.specs.declared.ActiveSegment.the-variants.{Closed, Open}
-use Rattle.vad_segments.specs.declared.SpeechChunk.{SpeechChunk}
 use Rattle.vad_segments.specs.declared.Track.{Track}
 use Rattle.vad_classify.specs.Classify.{classifiedOf}
 use Rattle.vad_state.specs.State.{windowOf, carriedOf, heldOf, handedIn, sameLengths, settingsSound, carrySound, trackSound, isClosed, heldSound, segmentSound, activeSound, soundOf}
 use Rattle.vad_state.specs.Arrays.{filledOf}
 use Rattle.vad_state.specs.declared.VadDetector.{VadDetector}
 use Rattle.vad_call.specs.Calls.{valuesOf, waitingOf, measuredFrom, measuredOf, consumedFrom, carryAfter, progressOf, holdingWith, holdingOf, keptOf, dueOf, seededOf, gridStart, framesDue, verdictOf, rowsDue, advancedOf, tallyOf, noTally, refusedBy, acceptedOf, tooMany, concludedOf, ranOf, rowsOfCall}
-use Rattle.vad_call.specs.declared.Tally.{Tally}
 use Rattle.vad_detector.specs.Opening.{handedOver, openRefusal, rulesOf, freshTrack, freshOf, openOf, Handed}
 use Rattle.vad_detector.specs.Entries.{checkOf, detectOf, flushOf}
 use Rattle.vad_detector.specs.Readings.{readOf, undecidedIn, undecidedRead, rowsRead, talkRead, openStart, segmentRead}
 use Rattle.promises.specs.Log.{Seen, Turn, isFlush, blockOf, answerOf, loudsOfCall, unlessRefused, seenAs, seenOf, logOf, seenOpened, runOf}
-use Rattle.promises.specs.Wrong.{settings, window, rise, calls, run}
+use Rattle.promises.specs.Example.{settings, window, rise, calls, run, floorAt, first, later, shown}
 
 -- ---- the states
-
--- the floor is 2^-10 after quiet, and 1/2 + 2^-11 after a loud frame
-abbrev floorAt : Bool → Float
-floorAt loud = ofBits binary32 (cond loud 0x3F00_2000 0x3A80_0000)
 
 -- nothing is carried or held between calls, since a block is a frame and the first flush ends the warm-up
 abbrev stateOf : ℕ → ℕ → Bool → Track → VadDetector
@@ -76,67 +69,6 @@ openAt start silence =
 
 abbrev opened : VadDetector
 opened = stateOf 0 0 true (freshTrack (floorAt false))
-
--- ---- what is shown
-
--- a row of one loud frame
-abbrev rowOf : ℕ → ℕ → SpeechChunk
-rowOf from to =
-    record {
-      «start_sample» = from;
-      «end_sample» = to;
-      «start_time» = from * 125000;
-      «end_time» = to * 125000;
-      «score_total» = 1024;
-      «frame_count» = 1;
-      «avg_energy» = 0x3F80_0000;
-    }
-
--- frames, how many of them are loud, the floor, and how many rows
-abbrev counts : ℕ → ℕ → Float → ℕ → Tally
-counts frames noisy floor rows = record { frames = frames; loud = noisy; quiet = frames - noisy; «noise_floor» = floor; rows = rows }
-
--- one call: a flush or not, the block's length, the number; the rows, the counts, which frames are loud; then what is read: undecided, rows, talk, segment open, still warming
-abbrev seen : Bool → ℕ → ℕ → List SpeechChunk → Tally → List Bool → ℕ → ℕ → ℕ → Bool → Bool → Seen
-seen flush block number rows tally louds undecided reported talk segment warming =
-    record {
-      flush = flush;
-      block = block;
-      number = number;
-      rows = rows;
-      tally = tally;
-      undecided = undecided;
-      reported = reported;
-      talk = talk;
-      segment = segment;
-      louds = louds;
-      warming = warming;
-    }
-
--- a block of one frame, loud or not
-abbrev heard : Bool → List SpeechChunk → ℕ → ℕ → ℕ → Bool → Seen
-heard noisy rows undecided reported talk segment =
-    seen false 8 0 rows (counts 1 (cond noisy 1 0) (floorAt noisy) (length rows)) (noisy ∷ []) undecided reported talk segment false
-
--- the opening
-abbrev first : Seen
-first = seen false 0 0 [] (counts 0 0 (ofBits binary32 0) 0) [] 0 0 0 false true
-
--- the eight calls
-abbrev later : List Seen
-later =
-    seen true 0 0 [] (counts 0 0 (floorAt false) 0) [] 0 0 0 false false
-    ∷ heard false [] 4 0 0 false
-    ∷ heard true [] 4 0 0 true
-    ∷ heard false [] 4 0 0 true
-    ∷ seen false 8 18 [] (counts 0 0 (ofBits binary32 0) 0) [] 4 0 0 true false
-    ∷ heard false (rowOf 4 20 ∷ []) 28 1 16 false
-    ∷ heard true [] 28 1 16 true
-    ∷ seen true 0 0 (rowOf 28 40 ∷ []) (counts 0 0 (floorAt true) 1) [] 40 2 28 false false
-    ∷ []
-
-abbrev pub shown : List Seen
-shown = first ∷ later
 
 -- ---- call by call
 

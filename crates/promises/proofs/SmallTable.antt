@@ -11,6 +11,7 @@ use Rattle.lists.specs.Stores.{sets-all}
 use Rattle.float.specs.Fused.{fusedOf}
 use Rattle.float.specs.Root.{rootOf, twiceRoot}
 use Rattle.float.specs.Whole.{roundOf, ceilOf}
+use Rattle.ranges.specs.Ranges.{leadingOf, allWithin}
 use Rattle.score.specs.Score.{scoreOf, reaches, largest}
 use Rattle.vad_config.specs.Domain.{inUnit, rateIn, durationIn, startIn}
 use Rattle.vad_config.specs.Lengths.{frameLength, frameLengthOf, hopLengthOf, warmupFramesOf}
@@ -18,10 +19,11 @@ use Rattle.vad_config.specs.Settings.{frameOf, hopOf, warmupOf, firstOf, framin
 use Rattle.vad_segments.specs.Closing.{flat, roomOf}
 use Rattle.vad_segments.specs.declared.SpeechChunk.{SpeechChunk}
 use Rattle.vad_segments.proofs.Laws.{flat-length}
+use Rattle.vad_state.specs.State.{handedIn}
 use Rattle.vad_state.specs.declared.VadDetector.{VadDetector}
 use Rattle.vad_call.specs.Calls.{tooMany, concludedOf, ranOf}
 use Rattle.vad_call.specs.declared.Detected.{Detected}
-use Rattle.vad_detector.specs.Opening.{openOf}
+use Rattle.vad_detector.specs.Opening.{handedOver, openRefusal, openOf}
 use Rattle.vad_detector.specs.Entries.{detectOf, flushOf, flushRows}
 use Rattle.vad_detector.specs.declared.Opened.{Opened}
 use Rattle.vad_runs.specs.Detector.{config, window, a, b, Run, run-a, run-b}
@@ -90,7 +92,7 @@ run-reports release ended talk loud row h =
 
 -- ---- the table
 
--- every line of it: fifteen are computed, the runs go by the law above
+-- every line of it: sixteen are computed, the runs go by the law above
 pub small-table : Every Holds smallTable
-unfolding refusalOf framingRefusals levelRefusals limitRefusals firstOf inUnit rateIn durationIn startIn frameOf frameLengthOf frameLength hopOf hopLengthOf warmupOf warmupFramesOf scoreOf largest reaches fusedOf rootOf twiceRoot roundOf ceilOf mul sub div add sum neg round ofInt ofBits le lt eq isNan
-small-table = (refl, (refl, (refl, (refl, (refl, (refl, (refl, (refl, (refl, (refl, (refl, (refl, (refl, (refl, (refl, (run-reports a 280 160 1 _ run-a, (run-reports b 360 240 2 _ run-b, tt)))))))))))))))))
+unfolding openOf openRefusal handedOver handedIn allWithin leadingOf refusalOf framingRefusals levelRefusals limitRefusals firstOf inUnit rateIn durationIn startIn frameOf frameLengthOf frameLength hopOf hopLengthOf warmupOf warmupFramesOf scoreOf largest reaches fusedOf rootOf twiceRoot roundOf ceilOf mul sub div add sum neg round ofInt ofBits le lt eq isNan
+small-table = (refl, (refl, (refl, (refl, (refl, (refl, (refl, (refl, (refl, (refl, (refl, (refl, (refl, (refl, (refl, (refl, (run-reports a 280 160 1 _ run-a, (run-reports b 360 240 2 _ run-b, tt))))))))))))))))))

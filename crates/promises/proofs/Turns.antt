@@ -1,5 +1,5 @@
 -- How a call of a run ends, and what is then seen of it: one record for every call, a refused one and the opening among them. Assumes nothing.
-use mathlib.Core.Path.{_≡_, refl, sym, subst}
+use mathlib.Core.Path.{_≡_, refl, sym, _∙_, subst}
 use mathlib.Core.Bool.{Bool, true, false, not, _&&_, cond}
 use mathlib.Core.List.{List, [], map, reverseAux}
 use Prim.Native.Nat.{ℕ, _+_, _^_, _≤_}
@@ -15,6 +15,8 @@ use Rattle.vad_segments.specs.Closing.{talkOf}
 use Rattle.vad_segments.specs.Judging.{countOf}
 use Rattle.vad_classify.specs.Classify.{classifiedOf}
 use Rattle.vad_segments.specs.Positions.{undecidedOf}
+use Rattle.vad_segments.specs.declared.ActiveSegment.{ActiveSegment}
+use Rattle.vad_segments.specs.declared.ActiveSegment.the-variants.{Closed, Open}
 use Rattle.vad_segments.specs.declared.FrameMetrics.{FrameMetrics}
 use Rattle.vad_segments.specs.declared.SpeechChunk.{SpeechChunk}
 use Rattle.vad_segments.proofs.Ordered.{InOrder, RowsFrom, either, in-order-wider, call-in-order, call-rows-counted, call-talk-counted}
@@ -38,14 +40,20 @@ pub record Shown (d : VadDetector) (s : Seen) : Type 0 where
   pub reported : s .reported ≡ d .track .«rows_reported»
   pub talk : s .talk ≡ d .track .«talk_samples»
   pub segment : s .segment ≡ openStart (d .track .«active_segment») .«is_open»
-  pub warming : s .warming ≡ d .warming
+  pub readings : Every (λ n. n ≡ 0) (s .readings)
+
+unrefused : (a : ActiveSegment) → openStart a .refusal ≡ 0
+unfolding openStart
+unrefused Closed = refl
+unrefused (Open s) = refl
 
 -- a state of a run is sound, so it is read
 shown : (flush : Bool) (block : ℕ) (a : Detected) (rows : List SpeechChunk) (louds : List Bool) → Running (a .detector) → Shown (a .detector) (seenAs flush block a rows louds)
 unfolding seenAs undecidedRead rowsRead talkRead segmentRead readOf
 shown flush block a rows louds r =
     let h = running-sound (a .detector) r in
-    record { undecided = rw h; reported = rw h; talk = rw h; segment = rw h; warming = refl }
+    let read = unrefused (a .detector .track .«active_segment») in
+    record { undecided = rw h; reported = rw h; talk = rw h; segment = rw h; readings = rw h (refl, (refl, (refl, (read, tt)))) }
 
 -- ---- what a call does to a state d, and leaves as e
 pub record Moves (d e : VadDetector) (s : Seen) : Type 0 where
@@ -64,15 +72,16 @@ pub record Moves (d e : VadDetector) (s : Seen) : Type 0 where
   pub rows : s .tally .rows ≡ length (s .rows)
   pub all-rows : e .track .«rows_reported» ≡ d .track .«rows_reported» + length (s .rows)
   pub all-talk : e .track .«talk_samples» ≡ d .track .«talk_samples» + talkOf (s .rows)
+  pub written : s .rows ≡ s .due
   pub never-19 : s .number ≡ 19 → ⊥
 
 -- ---- a call that changes nothing
 
 -- it writes no row, judges no frame, and takes no sound
-idle : (d : VadDetector) (s : Seen) → Running d → Shown d s → s .rows ≡ [] → s .louds ≡ [] → s .tally ≡ noTally → cond (eqb (s .number) 0) (s .block) 0 ≡ 0
+idle : (d : VadDetector) (s : Seen) → Running d → Shown d s → s .rows ≡ [] → s .due ≡ [] → s .louds ≡ [] → s .tally ≡ noTally → cond (eqb (s .number) 0) (s .block) 0 ≡ 0
     → (s .flush && eqb (s .number) 0) ≡ false → (s .number ≡ 19 → ⊥) → Moves d d s
 unfolding noTally countOf talkOf
-idle d s r h rows louds tally sound flush number = record {
+idle d s r h rows due louds tally sound flush number = record {
   running = r;
   rules = refl;
   shown = h;
@@ -88,6 +97,7 @@ idle d s r h rows louds tally sound flush number = record {
   rows = rw (tally, rows);
   all-rows = rw rows (omega arith);
   all-talk = rw rows (omega arith);
+  written = rows ∙ sym due;
   never-19 = number;
 }
 
@@ -95,7 +105,7 @@ idle d s r h rows louds tally sound flush number = record {
 pub opened-moves : (d : VadDetector) → Running d → Moves d d (seenOpened d)
 unfolding seenOpened seenAs unlessRefused
 opened-moves d r =
-    idle d (seenOpened d) r (shown false 0 (record { refusal = record { number = 0; carries = 0 }; detector = d; tally = noTally }) [] [] r) refl refl refl refl refl (λ e. absurd (omega arith))
+    idle d (seenOpened d) r (shown false 0 (record { refusal = record { number = 0; carries = 0 }; detector = d; tally = noTally }) [] [] r) refl refl refl refl refl refl (λ e. absurd (omega arith))
 
 -- a refused call
 refused-moves : (d : VadDetector) (flush : Bool) (block number carries : ℕ) (rows : List SpeechChunk) (louds : List Bool) → Running d → (number ≡ 0 → ⊥) → (number ≡ 19 → ⊥)
@@ -104,7 +114,7 @@ unfolding seenAs refusedBy unlessRefused
 refused-moves d flush block number carries rows louds r some known =
     let a = refusedBy number carries d in
     let e = ne-eqb number 0 some in
-    idle d (seenAs flush block a rows louds) r (shown flush block a rows louds r) (rw e) (rw e) refl (rw e) (rw e (never flush)) known
+    idle d (seenAs flush block a rows louds) r (shown flush block a rows louds r) (rw e) (rw e) (rw e) refl (rw e) (rw e (never flush)) known
   where
     never : (b : Bool) → (b && false) ≡ false
     never true = refl
@@ -192,6 +202,7 @@ module _ (finish : Bool) (d : VadDetector) (xs : List Float) (r : Running d) (h 
         rows = refl;
         all-rows = omega (arith, call-rows-counted (d .rules) limit t frames finish, kept .1);
         all-talk = omega (arith, call-talk-counted (d .rules) limit t frames finish, kept .2);
+        written = refl;
         never-19 = λ e. absurd (omega arith);
       }
 

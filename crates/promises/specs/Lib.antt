@@ -1,4 +1,5 @@
 pub mod Log
 pub mod Demand
 pub mod Table
+pub mod Example
 pub mod Wrong

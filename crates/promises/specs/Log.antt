@@ -49,14 +49,15 @@ pub record Seen : Type 0 where
   -- the rows written, and the counts answered
   pub rows : List SpeechChunk
   pub tally : Tally
-  -- what `undecided_from`, `rows_reported` and `talk_samples` answer after the call, and `active_segment_start_sample`: is a segment open
+  -- what `undecided_from`, `rows_reported` and `talk_samples` answer after the call, and `active_segment_start_sample`: is a segment open; and the refusal numbers of the four
   pub undecided : ℕ
   pub reported : ℕ
   pub talk : ℕ
   pub segment : Bool
-  -- what no detector shows, but the definition: which of the call's frames were loud, and whether frames are still held after it
+  pub readings : List ℕ
+  -- from demand 2's definition, whatever the detector shows: which of the call's frames are loud, and its rows
   pub louds : List Bool
-  pub warming : Bool
+  pub due : List SpeechChunk
 
 -- a refused call writes nothing and judges nothing
 unfoldable pub unlessRefused : {A : Type 0} → ℕ → List A → List A
@@ -75,8 +76,14 @@ seenAs flush block a rows louds =
       reported = rowsRead (a .detector) .value;
       talk = talkRead (a .detector) .value;
       segment = segmentRead (a .detector) .«is_open»;
+      readings =
+          undecidedRead (a .detector) .refusal
+          ∷ rowsRead (a .detector) .refusal
+          ∷ talkRead (a .detector) .refusal
+          ∷ segmentRead (a .detector) .refusal
+          ∷ [];
       louds = unlessRefused (a .refusal .number) louds;
-      warming = a .detector .warming;
+      due = unlessRefused (a .refusal .number) rows;
     }
 
 unfoldable pub seenOf : VadDetector → Turn → Seen

@@ -11,7 +11,6 @@ use Rattle.float.specs.Root.{rootOf}
 use Rattle.float.specs.declared.Rounded.the-variants.{Finite}
 use Rattle.score.specs.Score.{scoreOf}
 use Rattle.vad_config.specs.Lengths.{frameLengthOf, hopLengthOf, warmupFramesOf}
-use Rattle.vad_config.specs.Settings.{refusalOf}
 use Rattle.vad_config.specs.declared.VadConfig.{VadConfig}
 use Rattle.vad_segments.specs.Closing.{flat}
 use Rattle.vad_detector.specs.Opening.{openOf}
@@ -27,8 +26,8 @@ pub data Case : Type 0 where
   Frame : (ns rate n : ℕ) → Case
   Hop : (frame : ℕ) (overlap : Float) (n : ℕ) → Case
   WarmUp : (hop rate n : ℕ) → Case
-  -- settings are refused by a number; 0: accepted
-  Settings : (c : VadConfig) (number : ℕ) → Case
+  -- an opening with a window all 1 of n samples is refused by a number; 0: accepted
+  Opening : (c : VadConfig) (n number : ℕ) → Case
   Score : (ratio : Float) (n : ℕ) → Case
   -- six detects and a flush, with a release ratio: no row but at the flush
   Run : (release : ℕ) (row : List ℕ) → Case
@@ -37,9 +36,13 @@ pub data Case : Type 0 where
 abbrev pub calls : List Turn
 calls = map (λ k. Detect (blockOf k) 0) (0 ∷ 1 ∷ 2 ∷ 3 ∷ 4 ∷ 5 ∷ []) ++ (Flush 7 ∷ [])
 
--- 'rise 0.5'
+-- 'rise 0.5', and the table's overlap
 abbrev pub half : Float
 half = ofBits binary32 0x3F00_0000
+
+-- 'window all 1'
+abbrev pub one : Float
+one = ofBits binary32 0x3F80_0000
 
 abbrev pub Reports : ℕ → List ℕ → Type 0
 Reports release row =
@@ -53,7 +56,7 @@ Holds (Root x r) = rootOf x ≡ Finite r
 Holds (Frame ns rate n) = frameLengthOf rate ns ≡ n
 Holds (Hop frame overlap n) = hopLengthOf frame overlap ≡ n
 Holds (WarmUp hop rate n) = warmupFramesOf hop rate ≡ n
-Holds (Settings c number) = refusalOf c ≡ number
+Holds (Opening c n number) = openOf c (replicate n one) half .refusal ≡ number
 Holds (Score ratio n) = scoreOf ratio ≡ n
 Holds (Run release row) = Reports release row
 
@@ -63,8 +66,8 @@ Holds (Run release row) = Reports release row
 abbrev pub onePlus12 : Float
 onePlus12 = fin false 4097 (negsuc 11)
 
-abbrev pub minusOnePlus11 : Float
-minusOnePlus11 = fin true 2049 (negsuc 10)
+abbrev pub negOnePlus11 : Float
+negOnePlus11 = fin true 2049 (negsuc 10)
 
 abbrev pub power24 : Float
 power24 = fin false 1 (negsuc 23)
@@ -75,16 +78,16 @@ power60 = fin false 1 (negsuc 59)
 abbrev pub onePlus11Plus23 : Float
 onePlus11Plus23 = fin false 8392705 (negsuc 22)
 
--- run A's settings but for the frame's duration and the release ratio: 1 ms at 8 kHz are 8 samples, 875 µs are 7
-abbrev pub framed : ℕ → Float → VadConfig
-framed ns release =
+-- run A's settings but for the frame's duration and the two ratios: 10 ms at 8 kHz are 80 samples, 1 ms are 8, 875 µs are 7
+abbrev pub framed : ℕ → Float → Float → VadConfig
+framed ns activation release =
     record {
       «sample_rate» = 8000;
       «frame_duration» = ns;
       «frame_overlap» = ofBits binary32 0;
       «has_pre_emphasis» = false;
       «pre_emphasis» = ofBits binary32 0;
-      «activation_ratio» = ofBits binary32 0x4080_0000;
+      «activation_ratio» = activation;
       «release_ratio» = release;
       «min_speech_energy» = ofBits binary32 0;
       «noise_smoothing» = ofBits binary32 0;
@@ -98,10 +101,13 @@ framed ns release =
 abbrev pub two : Float
 two = ofBits binary32 0x4000_0000
 
+abbrev pub four : Float
+four = ofBits binary32 0x4080_0000
+
 -- ---- the table, in document 01's order
 abbrev pub smallTable : List Case
 smallTable =
-    Fused onePlus12 onePlus12 minusOnePlus11 power24
+    Fused onePlus12 onePlus12 negOnePlus11 power24
     ∷ Fused onePlus12 onePlus12 power60 onePlus11Plus23
     ∷ Root (ofBits binary32 0) (ofBits binary32 0)
     ∷ Root two (ofBits binary32 0x3FB5_04F3)
@@ -109,13 +115,14 @@ smallTable =
     ∷ Hop 320 half 160
     ∷ WarmUp 160 16000 30
     ∷ Hop 5 half 3
-    ∷ Settings (framed 10000000 (inf false)) 6
-    ∷ Score (ofBits binary32 0x3F80_0000) 0
+    ∷ Opening (framed 10000000 four (inf false)) 80 6
+    ∷ Opening (framed 10000000 (inf false) (inf false)) 80 6
+    ∷ Score one 0
     ∷ Score (ofBits binary32 0x4120_0000) 1024
     ∷ WarmUp 8 8000 300
-    ∷ Settings (framed 1000000 two) 0
+    ∷ Opening (framed 1000000 four two) 8 0
     ∷ WarmUp 7 8000 343
-    ∷ Settings (framed 875000 two) 12
+    ∷ Opening (framed 875000 four two) 7 12
     ∷ Run 0x4000_0000 (120 ∷ 280 ∷ 15000000 ∷ 35000000 ∷ 1024 ∷ 1 ∷ 1065353216 ∷ [])
     ∷ Run 0x3FC0_0000 (120 ∷ 360 ∷ 15000000 ∷ 45000000 ∷ 1325 ∷ 2 ∷ 1065353216 ∷ [])
     ∷ []
