@@ -2,12 +2,12 @@
 use mathlib.Core.Path.{_≡_, refl, sym, ap, ap₂, _∙_, subst}
 use mathlib.Core.Logic.{_⊎_, inl, inr}
 use Prim.Native.Nat.{ℕ, zero, suc, _+_, _-_, _*_, _/_, _%_, _^_, _≤_, _<_, compare}
-use native.Mathlib.Nat.{le-antisymm, le-refl, le-trans, le-of-eq, lt-of-lt-of-le, lt-of-le-of-lt, lt-of-not-le, lt-irrefl, eq-zero-or-pos, eq-or-lt-of-le, add-assoc, mul-pos, mul-assoc, mul-one, mul-le-mul-right, mul-lt-mul-of-pos-right, le-div-iff-mul-le, mul-div-cancel}
+use native.Mathlib.Nat.{le-antisymm, le-refl, le-trans, le-of-eq, lt-of-lt-of-le, lt-of-le-of-lt, lt-of-not-le, lt-irrefl, eq-zero-or-pos, eq-or-lt-of-le, add-assoc, mul-pos, mul-assoc, mul-one, mul-le-mul-right, mul-lt-mul-of-pos-right, le-div-iff-mul-le, mul-div-cancel, suc-mul, pow-succ'}
 use native.Mathlib.Omega.{arith}
 use mathlib.Core.Bool.{Bool, true, false, cond}
 use lib.Dec.{T, ltb, ltb→lt, lt→ltb, not-T, lit<}
 use lib.Pow.{pow-add, pow-pos, pow-mono, pow-lt, shr-lt}
-use lib.Ieee.{Float, nan, inf, fin, Format, binary32, prec, low, down, size, odd, units, round, toBits, ofBits}
+use lib.Ieee.{Float, nan, inf, fin, Format, binary32, prec, low, down, size, odd, units, round, hid, top, toBits, ofBits}
 use lib.Ieee.Digits.{Equals, odd-val, size-lt, size-le}
 use lib.Ieee.Fits.{round-is, two, two-le-pos, nearest-le, odd-fits, down-pos}
 use lib.Ieee.Bits.{ofBits-toBits, cond-no}
@@ -76,35 +76,36 @@ Signed s nan = ⊥
 Signed s (inf t) = ⊥
 Signed s (fin t m e) = t ≡ s
 
-pub toBits-val : (s : Bool) (v : Float) (a : ℕ) → Signed s v → Equals v a (2 ^ 149) → toBits binary32 v ≡ cond s 2147483648 0 + (size a - 24) * 8388608 + a / 2 ^ (size a - 24)
+pub toBits-val : (f : Format) (s : Bool) (v : Float) (a : ℕ) → Signed s v → Equals v a (2 ^ low f) → toBits f v ≡ cond s (top f) 0 + (size a - prec f) * hid f + a / 2 ^ (size a - prec f)
 unfolding toBits
-toBits-val s nan a p h = absurd h
-toBits-val s (inf t) a p h = absurd h
-toBits-val s (fin t m e) a p h =
-    ap₂ (λ (t : Bool) (x : ℕ). cond t 2147483648 0 + (size x - 24) * 8388608 + x / 2 ^ (size x - 24)) p (ap (λ (x : ℕ). x / down e) h ∙ mul-div-cancel a (down-pos e))
+toBits-val f s nan a p h = absurd h
+toBits-val f s (inf t) a p h = absurd h
+toBits-val f s (fin t m e) a p h =
+    ap₂ (λ (t : Bool) (x : ℕ). cond t (top f) 0 + (size x - prec f) * hid f + x / 2 ^ (size x - prec f)) p (ap (λ (x : ℕ). x / down e) h ∙ mul-div-cancel a (down-pos e))
 
 odd-finite : (d : ℕ) (s : Bool) (q k l : ℕ) → Signed s (odd d s q k l)
 unfolding odd
 odd-finite d s zero k l = refl
 odd-finite d s (suc q) k l = refl
 
--- what the two fields of the bits come to
-fields-of : (q k : ℕ) → q ≤ 2 ^ 24 → (k ≡ 0) ⊎ (2 ^ 23 ≤ q) → (size (q * 2 ^ k) - 24) * 8388608 + q * 2 ^ k / 2 ^ (size (q * 2 ^ k) - 24) ≡ k * 8388608 + q
-fields-of q k le ge = elim (eq-or-lt-of-le le) [
+-- what the two fields of the bits come to, in a format of suc p digits
+pub fields-of : (p q k : ℕ) → q ≤ 2 ^ suc p → (k ≡ 0) ⊎ (2 ^ p ≤ q) → (size (q * 2 ^ k) - suc p) * 2 ^ p + q * 2 ^ k / 2 ^ (size (q * 2 ^ k) - suc p) ≡ k * 2 ^ p + q
+fields-of p q k le ge = elim (eq-or-lt-of-le le) [
   | inl e ↦
-      let n-is : q * 2 ^ k ≡ 2 ^ (24 + k) = ap (λ (z : ℕ). z * 2 ^ k) e ∙ sym (pow-add 2 24 k) in
-      let z : size (q * 2 ^ k) ≡ suc (24 + k) = size-is (q * 2 ^ k) (24 + k) (subst (λ (x : ℕ). x < 2 ^ suc (24 + k)) (sym n-is) (pow-lt (le-refl (suc (24 + k))))) (le-of-eq (sym n-is)) in
-      ap (λ (x : ℕ). (x - 24) * 8388608 + q * 2 ^ k / 2 ^ (x - 24)) z
-      ∙ ap (λ (x : ℕ). x * 8388608 + q * 2 ^ k / 2 ^ x) (omega arith)
-      ∙ ap (λ (x : ℕ). suc k * 8388608 + x / 2 ^ suc k) (n-is ∙ ap (λ (x : ℕ). 2 ^ x) (omega arith) ∙ pow-add 2 23 (suc k))
-      ∙ ap (λ (x : ℕ). suc k * 8388608 + x) (mul-div-cancel (2 ^ 23) (pow-pos (suc k)))
-      ∙ (omega arith)
+      let n-is : q * 2 ^ k ≡ 2 ^ (suc p + k) = ap (λ (z : ℕ). z * 2 ^ k) e ∙ sym (pow-add 2 (suc p) k) in
+      let z : size (q * 2 ^ k) ≡ suc (suc p + k) = size-is (q * 2 ^ k) (suc p + k) (subst (λ (x : ℕ). x < 2 ^ suc (suc p + k)) (sym n-is) (pow-lt (le-refl (suc (suc p + k))))) (le-of-eq (sym n-is)) in
+      ap (λ (x : ℕ). (x - suc p) * 2 ^ p + q * 2 ^ k / 2 ^ (x - suc p)) z
+      ∙ ap (λ (x : ℕ). x * 2 ^ p + q * 2 ^ k / 2 ^ x) (omega arith)
+      ∙ ap (λ (x : ℕ). suc k * 2 ^ p + x / 2 ^ suc k) (n-is ∙ ap (λ (x : ℕ). 2 ^ x) (omega arith) ∙ pow-add 2 p (suc k))
+      ∙ ap (λ (x : ℕ). suc k * 2 ^ p + x) (mul-div-cancel (2 ^ p) (pow-pos (suc k)))
+      ∙ ap (λ (x : ℕ). x + 2 ^ p) (suc-mul k (2 ^ p))
+      ∙ (omega (arith, pow-succ' 2 p))
   | inr l ↦
-      let k-is : size (q * 2 ^ k) - 24 ≡ k = elim ge [
-        | inl z ↦ omega (arith, (size-le (q * 2 ^ k) 24 (subst (λ (x : ℕ). q * 2 ^ x < 2 ^ 24) (sym z) (subst (λ (x : ℕ). x < 2 ^ 24) (sym (mul-one q)) l))))
-        | inr g ↦ ap (λ (x : ℕ). x - 24) (size-is (q * 2 ^ k) (23 + k) (lt-of-lt-of-le (mul-lt-mul-of-pos-right l (pow-pos k)) (le-of-eq (sym (pow-add 2 24 k) ∙ ap (λ (x : ℕ). 2 ^ x) (omega arith)))) (le-trans (le-of-eq (pow-add 2 23 k)) (mul-le-mul-right (2 ^ k) g))) ∙ (omega arith)
+      let k-is : size (q * 2 ^ k) - suc p ≡ k = elim ge [
+        | inl z ↦ omega (arith, (size-le (q * 2 ^ k) (suc p) (subst (λ (x : ℕ). q * 2 ^ x < 2 ^ suc p) (sym z) (subst (λ (x : ℕ). x < 2 ^ suc p) (sym (mul-one q)) l))))
+        | inr g ↦ ap (λ (x : ℕ). x - suc p) (size-is (q * 2 ^ k) (p + k) (lt-of-lt-of-le (mul-lt-mul-of-pos-right l (pow-pos k)) (le-of-eq (sym (pow-add 2 (suc p) k) ∙ ap (λ (x : ℕ). 2 ^ x) (omega arith)))) (le-trans (le-of-eq (pow-add 2 p k)) (mul-le-mul-right (2 ^ k) g))) ∙ (omega arith)
       ] in
-      ap (λ (x : ℕ). x * 8388608 + q * 2 ^ k / 2 ^ x) k-is ∙ ap (λ (x : ℕ). k * 8388608 + x) (mul-div-cancel q (pow-pos k))
+      ap (λ (x : ℕ). x * 2 ^ p + q * 2 ^ k / 2 ^ x) k-is ∙ ap (λ (x : ℕ). k * 2 ^ p + x) (mul-div-cancel q (pow-pos k))
 ]
 
 -- below the largest finite value, in units and in bits alike
@@ -166,9 +167,9 @@ pack-in s q k le ge h =
     let v = odd 25 s q k 149 in
     let r : q * 2 ^ k < 2 ^ 277 = in-range q k le ge h in
     let b : toBits binary32 v ≡ cond s 2147483648 0 + (k * 8388608 + q) =
-    toBits-val s v (q * 2 ^ k) (odd-finite 25 s q k 149) (odd-val 25 s q k 149)
+    toBits-val binary32 s v (q * 2 ^ k) (odd-finite 25 s q k 149) (odd-val 25 s q k 149)
     ∙ add-assoc (cond s 2147483648 0) ((size (q * 2 ^ k) - 24) * 8388608) (q * 2 ^ k / 2 ^ (size (q * 2 ^ k) - 24))
-    ∙ ap (λ (x : ℕ). cond s 2147483648 0 + x) (fields-of q k le ge) in
+    ∙ ap (λ (x : ℕ). cond s 2147483648 0 + x) (fields-of 23 q k le ge) in
     ap (ofBits binary32) (sym b) ∙ ofBits-toBits binary32 v (odd-fits binary32 25 s q k (lt-of-le-of-lt le (lit< tt)) le r) ∙ sym (units-in s q k r)
 
 pub pack-out : (s : Bool) (q k : ℕ) → q ≤ 2 ^ 24 → (k ≡ 0) ⊎ (2 ^ 23 ≤ q) → 2139095040 ≤ k * 8388608 + q → units binary32 s q k ≡ inf s

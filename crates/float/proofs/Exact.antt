@@ -56,10 +56,10 @@ cross-addend c d e g h k z p =
     let r : z * g * (d * e * (h * k)) ≡ z * (h * k) * (d * e * g) = simp (mul-assoc, mul-comm, mul-left-comm) in
     l ∙ ap (λ (u : ℕ). u * (d * e * (h * k))) p ∙ r
 
-product-of : (m n p q : ℕ) → m * 2 ^ p * (n * 2 ^ q) * 2 ^ 14 ≡ m * n * 2 ^ (p + q + 14)
-product-of m n p q =
-    let l : m * 2 ^ p * (n * 2 ^ q) * 2 ^ 14 ≡ m * n * (2 ^ p * 2 ^ q * 2 ^ 14) = regroup m n (2 ^ p) (2 ^ q) (2 ^ 14) in
-    l ∙ ap (λ (z : ℕ). m * n * z) (ap (λ (z : ℕ). z * 2 ^ 14) (sym (pow-add 2 p q)) ∙ sym (pow-add 2 (p + q) 14))
+pub product-of : (m n p q i : ℕ) → m * 2 ^ p * (n * 2 ^ q) * 2 ^ i ≡ m * n * 2 ^ (p + q + i)
+product-of m n p q i =
+    let l : m * 2 ^ p * (n * 2 ^ q) * 2 ^ i ≡ m * n * (2 ^ p * 2 ^ q * 2 ^ i) = regroup m n (2 ^ p) (2 ^ q) (2 ^ i) in
+    l ∙ ap (λ (z : ℕ). m * n * z) (ap (λ (z : ℕ). z * 2 ^ i) (sym (pow-add 2 p q)) ∙ sym (pow-add 2 (p + q) i))
   where
     regroup : (m n a b c : ℕ) → m * a * (n * b) * c ≡ m * n * (a * b * c)
     regroup m n a b c = simp (mul-assoc, mul-comm, mul-left-comm)
@@ -86,5 +86,5 @@ fused-is (fin s m e) (fin t n d) (fin i l g) p q r u v w = both s m e t n d i l 
         ∙ sum-same binary32 (unlike (signOf x) (signOf y)) (m * up e * (n * up d) * down g) (signOf z) (l * up g * (down e * down d)) (down e * down d * down g)
         (M x * M y * 2 ^ (Q x + Q y + 14)) (M z * 2 ^ (Q z + 164)) (2 ^ 314)
         (mul-pos (mul-pos (down-pos e) (down-pos d)) (down-pos g)) (pow-pos 314)
-        (cross-product (m * up e) (n * up d) (down g) (2 ^ 150) (2 ^ 14) (M x * 2 ^ Q x) (M y * 2 ^ Q y) (down e) (down d) (p .2) (q .2) ∙ ap (λ (k : ℕ). k * (down e * down d * down g)) (product-of (M x) (M y) (Q x) (Q y)))
+        (cross-product (m * up e) (n * up d) (down g) (2 ^ 150) (2 ^ 14) (M x * 2 ^ Q x) (M y * 2 ^ Q y) (down e) (down d) (p .2) (q .2) ∙ ap (λ (k : ℕ). k * (down e * down d * down g)) (product-of (M x) (M y) (Q x) (Q y) 14))
         (cross-addend (l * up g) (down e) (down d) (down g) (2 ^ 150) (2 ^ 14) (M z * 2 ^ Q z) (r .2) ∙ ap (λ (k : ℕ). k * (down e * down d * down g)) (addend-of (M z) (Q z)))))

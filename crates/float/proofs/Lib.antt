@@ -13,6 +13,8 @@ pub mod Counts
 pub mod Roots
 pub mod RootExact
 pub mod Near
+pub mod Twice
+pub mod Wide
 pub mod NearestRoot
 pub mod Unique
 pub mod Examples

@@ -11,7 +11,7 @@ use lib.Ieee.Order.{drop, kept}
 use Rattle.float.proofs.Sticky.{Cmp, cmp, side, drop-bounds}
 
 -- ---- how far `closest` can be from its fraction: half a unit
-closest-bounds : (n c : ℕ) → 0 < c → (2 * n ≤ 2 * (closest n c * c) + c) × (2 * (closest n c * c) ≤ 2 * n + c)
+pub closest-bounds : (n c : ℕ) → 0 < c → (2 * n ≤ 2 * (closest n c * c) + c) × (2 * (closest n c * c) ≤ 2 * n + c)
 closest-bounds n c C = go (compare (n % c * 2) c) (cmp (n % c * 2) c)
   where
     e : n / c * c + n % c ≡ n

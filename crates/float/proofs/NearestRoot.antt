@@ -366,7 +366,7 @@ equals-of (fin s m e) a p h = h
 same-size : (y z : Float) (a : ℕ) → T (fits binary32 y) → T (fits binary32 z) → T (notNegative y) → T (notNegative z) → num y * 2 ^ 149 ≡ a * den y → num z * 2 ^ 149 ≡ a * den z → y ≡ z
 same-size y z a f g p q Y Z =
     sym (ofBits-toBits binary32 y f)
-    ∙ ap (ofBits binary32) (toBits-val false y a (signed-of y p) (equals-of y a p Y) ∙ sym (toBits-val false z a (signed-of z q) (equals-of z a q Z)))
+    ∙ ap (ofBits binary32) (toBits-val binary32 false y a (signed-of y p) (equals-of y a p Y) ∙ sym (toBits-val binary32 false z a (signed-of z q) (equals-of z a q Z)))
     ∙ ofBits-toBits binary32 z g
 
 -- of two nearest values neither is below the other

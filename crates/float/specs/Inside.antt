@@ -1,8 +1,9 @@
 -- What the private functions answer. Nothing here has to be believed: no public contract cites it.
-use Prim.Native.Nat.{ℕ, zero, suc, _+_, _-_, _*_, _/_, _%_, _^_}
+use Prim.Native.Nat.{ℕ, zero, suc, _+_, _-_, _*_, _/_, _%_, _^_, _<_}
+use mathlib.Core.Path.{_≡_}
 use mathlib.Core.Bool.{Bool, _&&_, Bool·beq, cond}
 use lib.Dec.{leb, ltb, eqb}
-use lib.Ieee.{binary32, unlike, sum, ofBits}
+use lib.Ieee.{Float, binary32, binary64, unlike, round, sum, toBits, ofBits}
 use Rattle.float.specs.declared.Rounded.{Rounded}
 use Rattle.float.specs.declared.Rounded.the-variants.{Finite, Nothing}
 use Rattle.float.specs.Finite.{rounded}
@@ -49,3 +50,7 @@ packOf s b = cond (ltb b 2139095040) (Finite (ofBits binary32 (cond s 2147483648
 unfoldable pub fusedBitsOf : ℕ → ℕ → ℕ → Rounded
 fusedBitsOf x y z =
     rounded (sum binary32 (unlike (signOf x) (signOf y)) (M x * M y * 2 ^ (Q x + Q y + 14)) (signOf z) (M z * 2 ^ (Q z + 164)) (2 ^ 314))
+
+-- An f64's pattern b settles a fraction's f32: r, where it is a number, is the f32 of every fraction whose nearest f64 has that pattern, and b is no infinity's.
+abbrev pub Narrowed : ℕ → Rounded → Type 0
+Narrowed b r = (x : Float) → r ≡ Finite x → (b % 0x8000_0000_0000_0000 < 0x7ff0_0000_0000_0000) × ((s : Bool) (n c : ℕ) → 0 < c → toBits binary64 (round binary64 s n c) ≡ b → rounded (round binary32 s n c) ≡ r)

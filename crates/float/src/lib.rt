@@ -1,7 +1,8 @@
-// Rust's exactly rounded `mul_add` and `sqrt` of f32 (document 01, 'Float helpers'), worked out in whole numbers from the bits, and the roundings to whole
-// numbers that settings and rows need.
+// Rust's exactly rounded `mul_add` and `sqrt` of f32 (document 01, 'Float helpers'), worked out in whole numbers from the bits; `mul_add` by the processor's f64
+// first, which settles nearly every result. And the roundings to whole numbers that settings and rows need.
 mod bits;
 mod fused;
+mod narrow;
 mod root;
 mod rounding;
 pub mod whole;
@@ -59,6 +60,17 @@ pub fn to_bits(x: f32) -> u32
 
 // a * b + c, rounded once. There is none where an operand is not finite, or where the rounded result overflows.
 pub fn mul_add(a: f32, b: f32, c: f32) -> Rounded
+    ensures { λ r. ⌜ r ≡ fusedOf a b c ⌝ }
+{
+    let quick = narrow::narrowed(narrow::wide_bits(a, b, c));
+    match quick {
+        Rounded::Finite(x) => Rounded::Finite(x),
+        Rounded::Nothing => whole_mul_add(a, b, c),
+    }
+}
+
+// The same in whole numbers, for the results that an f64 does not settle: a middle of two f32, a subnormal, an overflow.
+fn whole_mul_add(a: f32, b: f32, c: f32) -> Rounded
     ensures { λ r. ⌜ r ≡ fusedOf a b c ⌝ }
 {
     let x = to_bits(a);

@@ -1,0 +1,61 @@
+// a * b + c by the processor's own f64, for ordinary operands. The product of two f32 is exact in f64, and so the sum there is the exact sum S rounded to R, an f64.
+// Every middle of two neighbouring f32 is an f64, so S and R lie on the same side of each, and where R is no middle itself, R and S have the same nearest f32.
+ghost use mathlib.Core.Path.{_≡_};
+ghost use mathlib.Core.Logic.{_⊎_};
+ghost use mathlib.Core.Bool.{false};
+ghost use lib.Ieee.{binary64, add, mul, ne, toBits};
+ghost use Rattle.float.specs.Inside.{Narrowed};
+use super::Rounded;
+
+// A NaN, which has no cast to f64, or a subnormal, over which a processor may take longer than whole numbers do.
+fn special(x: f32) -> bool
+    ensures { λ r. ⌜ (r ≡ false → ne x x ≡ false) ⌝ }
+{
+    if x != x {
+        return true;
+    }
+    let size = f32::to_bits(x) % 0x8000_0000;
+    0 < size && size < 0x80_0000
+}
+
+// The pattern of a * b + c in f64; a NaN's, 0x7ff8_0000_0000_0000, where that is one or an operand is special.
+pub(crate) fn wide_bits(a: f32, b: f32, c: f32) -> u64
+    ensures { λ r. ⌜ (r ≡ 0x7ff8_0000_0000_0000) ⊎ (r ≡ toBits binary64 (add binary64 (mul binary64 a b) c)) ⌝ }
+{
+    if special(a) {
+        return 0x7ff8_0000_0000_0000;
+    }
+    if special(b) {
+        return 0x7ff8_0000_0000_0000;
+    }
+    if special(c) {
+        return 0x7ff8_0000_0000_0000;
+    }
+    let sum = a as f64 * b as f64 + c as f64;
+    if sum != sum {
+        return 0x7ff8_0000_0000_0000;
+    }
+    f64::to_bits(sum)
+}
+
+// The f32 of every number whose nearest f64 has these bits, where they settle it: above the smallest normal f32, below the largest, and in no middle; or zero.
+pub(crate) fn narrowed(bits: u64) -> Rounded
+    ensures { λ r. ⌜ Narrowed bits r ⌝ }
+{
+    let sign = bits / 0x8000_0000_0000_0000 * 0x8000_0000;
+    let size = bits % 0x8000_0000_0000_0000;
+    if size <= 0x3810_0000_0000_0000 {
+        if size == 0 {
+            return Rounded::Finite(f32::from_bits(sign as u32));
+        }
+        return Rounded::Nothing;
+    }
+    if 0x47ef_ffff_e000_0000 <= size {
+        return Rounded::Nothing;
+    }
+    if size % 0x2000_0000 == 0x1000_0000 {
+        return Rounded::Nothing;
+    }
+    let m = (size + 0x1000_0000) / 0x2000_0000 - 0x1_c000_0000;
+    Rounded::Finite(f32::from_bits((sign + m) as u32))
+}
