@@ -8,29 +8,14 @@ use Rattle.vad_config.specs.declared.VadConfig.{VadConfig}
 use Rattle.vad_segments.specs.declared.SpeechChunk.{SpeechChunk}
 use Rattle.vad_call.specs.declared.Tally.{Tally}
 use Rattle.vad_detector.specs.Opening.{openOf}
+use Rattle.vad_runs.specs.Detector.{configOf}
 use Rattle.promises.specs.Log.{Seen, Turn, Detect, Flush, runOf}
 
 -- ---- the run
 
 -- as run A, but frames and hops of 8 samples, so that the warm-up has 300 frames, and a padding of 4 samples
 abbrev pub settings : VadConfig
-settings =
-    record {
-      «sample_rate» = 8000;
-      «frame_duration» = 1000000;
-      «frame_overlap» = ofBits binary32 0;
-      «has_pre_emphasis» = false;
-      «pre_emphasis» = ofBits binary32 0;
-      «activation_ratio» = ofBits binary32 0x4080_0000;
-      «release_ratio» = ofBits binary32 0x4000_0000;
-      «min_speech_energy» = ofBits binary32 0;
-      «noise_smoothing» = ofBits binary32 0;
-      «energy_floor» = ofBits binary32 0x3A80_0000;
-      «hangover_frames» = 1;
-      «speech_padding» = 500000;
-      «min_speech_frames» = 1;
-      «stream_start_time» = 0;
-    }
+settings = configOf 1000000 500000 0x4080_0000 0x4000_0000
 
 abbrev pub window : List Float
 window = replicate 8 (ofBits binary32 0x3F80_0000)

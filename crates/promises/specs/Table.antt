@@ -5,7 +5,7 @@ use mathlib.Core.List.{List, [], _∷_, _++_, map}
 use Prim.Native.Nat.{ℕ}
 use lib.IntN.{negsuc}
 use lib.ListN.{replicate}
-use lib.Ieee.{Float, fin, inf, binary32, ofBits}
+use lib.Ieee.{Float, fin, binary32, ofBits}
 use Rattle.float.specs.Fused.{fusedOf}
 use Rattle.float.specs.Root.{rootOf}
 use Rattle.float.specs.declared.Rounded.the-variants.{Finite}
@@ -14,7 +14,7 @@ use Rattle.vad_config.specs.Lengths.{frameLengthOf, hopLengthOf, warmupFramesOf
 use Rattle.vad_config.specs.declared.VadConfig.{VadConfig}
 use Rattle.vad_segments.specs.Closing.{flat}
 use Rattle.vad_detector.specs.Opening.{openOf}
-use Rattle.vad_runs.specs.Detector.{config, window, blockOf}
+use Rattle.vad_runs.specs.Detector.{configOf, config, window, blockOf}
 use Rattle.promises.specs.Log.{Turn, Detect, Flush, logOf}
 
 -- ---- what a line of the table says
@@ -78,31 +78,12 @@ power60 = fin false 1 (negsuc 59)
 abbrev pub onePlus11Plus23 : Float
 onePlus11Plus23 = fin false 8392705 (negsuc 22)
 
--- run A's settings but for the frame's duration and the two ratios: 10 ms at 8 kHz are 80 samples, 1 ms are 8, 875 µs are 7
-abbrev pub framed : ℕ → Float → Float → VadConfig
-framed ns activation release =
-    record {
-      «sample_rate» = 8000;
-      «frame_duration» = ns;
-      «frame_overlap» = ofBits binary32 0;
-      «has_pre_emphasis» = false;
-      «pre_emphasis» = ofBits binary32 0;
-      «activation_ratio» = activation;
-      «release_ratio» = release;
-      «min_speech_energy» = ofBits binary32 0;
-      «noise_smoothing» = ofBits binary32 0;
-      «energy_floor» = ofBits binary32 0x3A80_0000;
-      «hangover_frames» = 1;
-      «speech_padding» = 5000000;
-      «min_speech_frames» = 1;
-      «stream_start_time» = 0;
-    }
-
 abbrev pub two : Float
 two = ofBits binary32 0x4000_0000
 
-abbrev pub four : Float
-four = ofBits binary32 0x4080_0000
+-- run A's settings but for the frame, 10 ms (80 samples), 1 ms (8) or 875 µs (7), and the two ratios, by their bits
+abbrev pub framed : ℕ → ℕ → ℕ → VadConfig
+framed frame activation release = configOf frame 5000000 activation release
 
 -- ---- the table, in document 01's order
 abbrev pub smallTable : List Case
@@ -115,14 +96,14 @@ smallTable =
     ∷ Hop 320 half 160
     ∷ WarmUp 160 16000 30
     ∷ Hop 5 half 3
-    ∷ Opening (framed 10000000 four (inf false)) 80 6
-    ∷ Opening (framed 10000000 (inf false) (inf false)) 80 6
+    ∷ Opening (framed 10000000 0x4080_0000 0x7F80_0000) 80 6
+    ∷ Opening (framed 10000000 0x7F80_0000 0x7F80_0000) 80 6
     ∷ Score one 0
     ∷ Score (ofBits binary32 0x4120_0000) 1024
     ∷ WarmUp 8 8000 300
-    ∷ Opening (framed 1000000 four two) 8 0
+    ∷ Opening (framed 1000000 0x4080_0000 0x4000_0000) 8 0
     ∷ WarmUp 7 8000 343
-    ∷ Opening (framed 875000 four two) 7 12
+    ∷ Opening (framed 875000 0x4080_0000 0x4000_0000) 7 12
     ∷ Run 0x4000_0000 (120 ∷ 280 ∷ 15000000 ∷ 35000000 ∷ 1024 ∷ 1 ∷ 1065353216 ∷ [])
     ∷ Run 0x3FC0_0000 (120 ∷ 360 ∷ 15000000 ∷ 45000000 ∷ 1325 ∷ 2 ∷ 1065353216 ∷ [])
     ∷ []

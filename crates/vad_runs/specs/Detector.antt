@@ -32,25 +32,29 @@ use Rattle.vad_detector.specs.Entries.{checkOf, detectOf, detectRows, flushOf, 
 use Rattle.vad_detector.specs.Readings.{openStart, segmentRead}
 use Rattle.vad_state.specs.declared.VadDetector.{VadDetector}
 
--- '8 kHz, frame 10 ms, overlap 0, no pre-emphasis, .. smoothing 0, floor 2^-10, gate 0, activation 4, .. hangover 1, minimum 1, padding 5 ms, start 0'; the release ratio by its bits
-abbrev pub config : ℕ → VadConfig
-config release =
+-- '8 kHz, .. overlap 0, no pre-emphasis, .. smoothing 0, floor 2^-10, gate 0, .. hangover 1, minimum 1, .. start 0': the frame and the padding in nanoseconds, the activation and the release ratio by their bits
+abbrev pub configOf : ℕ → ℕ → ℕ → ℕ → VadConfig
+configOf frame padding activation release =
     record {
       «sample_rate» = 8000;
-      «frame_duration» = 10000000;
+      «frame_duration» = frame;
       «frame_overlap» = ofBits binary32 0;
       «has_pre_emphasis» = false;
       «pre_emphasis» = ofBits binary32 0;
-      «activation_ratio» = ofBits binary32 0x4080_0000;
+      «activation_ratio» = ofBits binary32 activation;
       «release_ratio» = ofBits binary32 release;
       «min_speech_energy» = ofBits binary32 0;
       «noise_smoothing» = ofBits binary32 0;
       «energy_floor» = ofBits binary32 0x3A80_0000;
       «hangover_frames» = 1;
-      «speech_padding» = 5000000;
+      «speech_padding» = padding;
       «min_speech_frames» = 1;
       «stream_start_time» = 0;
     }
+
+-- 'frame 10 ms, .. activation 4, .. padding 5 ms'
+abbrev pub config : ℕ → VadConfig
+config release = configOf 10000000 5000000 0x4080_0000 release
 
 -- 'window all 1, rise 0.5'
 abbrev pub window : List Float
