@@ -1,4 +1,4 @@
-//! The C door of the proved library.
+//! The C door of the proved library, as `include/fallowcart.h` has it.
 //!
 //! Every word is allowed. Where only words go in and a word comes out, the functions are safe to call; where slices go in, each as its pointer and then
 //! its length, the caller answers for the pointers, and `raw.rs` does.
@@ -60,6 +60,100 @@ unsafe extern "C" {
         sample: u64,
     ) -> u64;
 
+    /// Opens a detector: the first of refusals 19 (the memory is too short) and 1 to 14 that is met, or 0.
+    pub fn fallowcart_vad_open(
+        sample_rate: u32,
+        frame_duration: u64,
+        frame_overlap: f32,
+        has_pre_emphasis: bool,
+        pre_emphasis: f32,
+        activation_ratio: f32,
+        release_ratio: f32,
+        min_speech_energy: f32,
+        noise_smoothing: f32,
+        energy_floor: f32,
+        hangover_frames: u64,
+        speech_padding: u64,
+        min_speech_frames: u64,
+        stream_start_time: u64,
+        window: *const f32,
+        window_len: usize,
+        speech_floor_rise: f32,
+        numbers: *mut u64,
+        numbers_len: usize,
+        floats: *mut f32,
+        floats_len: usize,
+    ) -> u64;
+
+    /// Hears a block: 0, or a refusal, and 2^8 times what it carries.
+    pub fn fallowcart_vad_detect(
+        numbers: *mut u64,
+        numbers_len: usize,
+        floats: *mut f32,
+        floats_len: usize,
+        samples: *const f32,
+        samples_len: usize,
+        rows: *mut u64,
+        rows_len: usize,
+    ) -> u64;
+
+    /// The stream's end, which may go on after it: 0, or a refusal, and 2^8 times what it carries.
+    pub fn fallowcart_vad_flush(
+        numbers: *mut u64,
+        numbers_len: usize,
+        floats: *mut f32,
+        floats_len: usize,
+        rows: *mut u64,
+        rows_len: usize,
+    ) -> u64;
+
+    /// Forgets all that was heard: 19, 13, or 0.
+    pub fn fallowcart_vad_reset(
+        numbers: *mut u64,
+        numbers_len: usize,
+        floats: *mut f32,
+        floats_len: usize,
+        stream_start_time: u64,
+    ) -> u64;
+
+    /// Readings: 2^8 times the value, or 19.
+    pub fn fallowcart_vad_undecided_from(
+        numbers: *const u64,
+        numbers_len: usize,
+        floats: *const f32,
+        floats_len: usize,
+    ) -> u64;
+    pub fn fallowcart_vad_analyzed_until(
+        numbers: *const u64,
+        numbers_len: usize,
+        floats: *const f32,
+        floats_len: usize,
+    ) -> u64;
+    pub fn fallowcart_vad_active_segment_start_sample(
+        numbers: *const u64,
+        numbers_len: usize,
+        floats: *const f32,
+        floats_len: usize,
+    ) -> u64;
+    pub fn fallowcart_vad_rows_reported(
+        numbers: *const u64,
+        numbers_len: usize,
+        floats: *const f32,
+        floats_len: usize,
+    ) -> u64;
+    pub fn fallowcart_vad_talk_samples(
+        numbers: *const u64,
+        numbers_len: usize,
+        floats: *const f32,
+        floats_len: usize,
+    ) -> u64;
+    pub fn fallowcart_vad_noise_floor(
+        numbers: *const u64,
+        numbers_len: usize,
+        floats: *const f32,
+        floats_len: usize,
+    ) -> u64;
+
     /// Opens a filter: the first of refusals 27 (the state has fewer than 25 words) and 20 to 24 that is met, or 0.
     pub fn fallowcart_filter_open(
         highpass_cutoff_hz: f32,
@@ -74,7 +168,7 @@ unsafe extern "C" {
         state_len: usize,
     ) -> u64;
 
-    /// Filters a block: a refusal and 2^32 times its place, or 0.
+    /// Filters a block: 0, or a refusal, and 2^8 times its place.
     pub fn fallowcart_filter_process(
         state: *mut u32,
         state_len: usize,
@@ -89,6 +183,6 @@ unsafe extern "C" {
     /// Forgets the sound: 27, or 0.
     pub fn fallowcart_filter_reset(state: *mut u32, state_len: usize) -> u64;
 
-    /// 2^32 times the bias' bits, or 27.
+    /// 2^8 times the bias' bits, or 27.
     pub fn fallowcart_filter_bias(state: *const u32, state_len: usize) -> u64;
 }

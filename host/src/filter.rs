@@ -183,7 +183,7 @@ impl Filter {
 
     /// The running bias.
     pub fn dc_bias(&self) -> f32 {
-        f32::from_bits(sound(Refusal::check(raw::filter_bias(&self.state))))
+        f32::from_bits(sound(Refusal::check(raw::filter_bias(&self.state))) as u32)
     }
 
     /// The state as words, to be stored.
@@ -212,6 +212,6 @@ impl Filter {
 }
 
 /// A `Filter` is only made with a sound state, and the library keeps it so: it is proved to.
-fn sound(answer: Result<u32, Refusal>) -> u32 {
+fn sound(answer: Result<u64, Refusal>) -> u64 {
     answer.expect("a sound state")
 }

@@ -1,14 +1,16 @@
 //! The hub's voice detector, proved in Rattle, for Rust.
 //!
 //! What is here calls the compiled library through its C door, and adds only the Rust types. No word of the door can break memory, so every function
-//! is safe. Today there are the arithmetic, the score, the [`Filter`] and the detector's settings; the detector comes later.
+//! is safe. A [`Detector`] finds speech, a [`Filter`] cleans sound before it; a [`Refusal`] says why a call was refused.
 
+mod detector;
 mod door;
 mod filter;
 pub mod raw;
 mod refusal;
 mod settings;
 
+pub use detector::{Detected, Detector, DetectorState, SpeechChunk, VadStats};
 pub use filter::{Filter, HighpassOrder, PreprocessingConfig, VadContext};
 pub use refusal::Refusal;
 pub use settings::VadConfig;

@@ -17,21 +17,23 @@ use std::fmt;
 #[derive(Debug, Clone, Copy, PartialEq, Eq)]
 pub struct Refusal {
     number: u32,
-    carried: u32,
+    carried: u64,
 }
 
 impl Refusal {
-    /// Reads the door's packed answer: the number, and 2^32 times what it carries. Accepted, it answers what was carried.
+    /// Reads the door's packed answer: the number in its low byte, and above it what it carries. Accepted, it answers what was carried.
     ///
-    /// A number without a sentence, or a place where the number has none, would mean that another library was linked, so it is not taken for an answer.
-    pub(crate) fn check(answer: u64) -> Result<u32, Refusal> {
-        let (number, carried) = (answer as u32, (answer >> 32) as u32);
+    /// A number without a sentence, or something carried where the number carries nothing, would mean that another library was linked, so it is not
+    /// taken for an answer.
+    pub(crate) fn check(answer: u64) -> Result<u64, Refusal> {
+        let (number, carried) = ((answer & 0xff) as u32, answer >> 8);
         if number == 0 {
             return Ok(carried);
         }
         let refusal = Refusal { number, carried };
+        let carries = refusal.place().is_some() || refusal.rows_needed().is_some();
         assert!(
-            refusal.sentence().is_some() && (refusal.has_place() || carried == 0),
+            refusal.sentence().is_some() && (carries || carried == 0),
             "the library's refusal {answer:#x}"
         );
         Err(refusal)
@@ -44,11 +46,12 @@ impl Refusal {
 
     /// The place in the block of the sample that was refused, counted from 0.
     pub fn place(&self) -> Option<usize> {
-        self.has_place().then_some(self.carried as usize)
+        matches!(self.number, 16 | 26).then_some(self.carried as usize)
     }
 
-    fn has_place(&self) -> bool {
-        matches!(self.number, 16 | 26)
+    /// How many rows the refused call would have reported.
+    pub fn rows_needed(&self) -> Option<usize> {
+        (self.number == 18).then_some(self.carried as usize)
     }
 
     fn sentence(&self) -> Option<&'static str> {
@@ -68,8 +71,14 @@ impl Refusal {
             13 => {
                 "the padding is above 1 s, the hangover or the least number of speech frames above 10,000, or the stream starts at 2^63 ns or later"
             }
+            14 => {
+                "the window has not a frame's length, an entry of it is not in [0, 1], or the rise weight is not in [0.5, 1]"
+            }
             15 => "the block is longer than 1,024 samples",
             16 => "a sample is not finite, or its magnitude is above 65,536",
+            17 => "the stream would be longer than 2^40 samples",
+            18 => "the call reports more rows than fit",
+            19 => "the detector's state is malformed",
             21 => "the high-pass cutoff is not finite, or is below 20 Hz",
             22 => "the high-pass cutoff is not below half the sample rate",
             23 => "the smoothing of the DC bias is not in (0, 1)",
@@ -87,6 +96,9 @@ impl fmt::Display for Refusal {
         f.write_str(self.sentence().expect("`check` asked for it"))?;
         if let Some(place) = self.place() {
             write!(f, ", at sample {place} of the block")?;
+        }
+        if let Some(rows) = self.rows_needed() {
+            write!(f, ", which are {rows}")?;
         }
         write!(f, " (refusal {})", self.number)
     }

@@ -67,8 +67,25 @@ impl Default for VadConfig {
     }
 }
 
+/// Time constant for raising the noise floor during speech.
+const SPEECH_FLOOR_RISE_TAU_SECS: f64 = 5.0;
+
+/// This formula and the rise weight's are those of the original's `detector.rs`, under its licence (NOTICE).
+fn hann_window(length: usize) -> Vec<f32> {
+    if length == 1 {
+        return vec![1.0];
+    }
+    let denom = (length - 1) as f32;
+    (0..length)
+        .map(|n| {
+            let angle = 2.0 * std::f32::consts::PI * n as f32 / denom;
+            0.5f32.mul_add(-angle.cos(), 0.5)
+        })
+        .collect()
+}
+
 /// Too long for the door's word is too long for the library, so the largest word stands for it.
-fn nanos(duration: Duration) -> u64 {
+pub(crate) fn nanos(duration: Duration) -> u64 {
     u64::try_from(duration.as_nanos()).unwrap_or(u64::MAX)
 }
 
@@ -156,6 +173,36 @@ impl VadConfig {
         let samples =
             door::fallowcart_padding_samples(nanos(self.speech_padding), self.sample_rate);
         Ok(samples as usize)
+    }
+
+    /// The Hann window by the original's formula, a frame long. It rests on the C library's cosine, so its last digits may depend on the machine; the
+    /// detector keeps the window that it was opened with.
+    ///
+    /// # Errors
+    ///
+    /// Where [`validate`](Self::validate) refuses.
+    ///
+    /// ```
+    /// let window = fallowcart::VadConfig::default().window().unwrap();
+    /// assert_eq!((window.len(), window[0]), (320, 0.0));
+    /// ```
+    pub fn window(&self) -> Result<Vec<f32>, Refusal> {
+        Ok(hann_window(self.frame_length_samples()?))
+    }
+
+    /// The weight that raises the noise floor during speech, by the original's formula, which rests on the C library's exponential.
+    ///
+    /// # Errors
+    ///
+    /// Where [`validate`](Self::validate) refuses.
+    ///
+    /// ```
+    /// let rise = fallowcart::VadConfig::default().speech_floor_rise().unwrap();
+    /// assert!((0.997..0.999).contains(&rise));
+    /// ```
+    pub fn speech_floor_rise(&self) -> Result<f32, Refusal> {
+        let hop_secs = self.hop_length_samples()? as f64 / f64::from(self.sample_rate);
+        Ok((-hop_secs / SPEECH_FLOOR_RISE_TAU_SECS).exp() as f32)
     }
 
     /// When a sample is, in nanoseconds. `None` where [`validate`](Self::validate) refuses, and above sample 2^40, where no stream goes.

@@ -726,7 +726,7 @@ fn answers(state: State, samples: &[f32], is_silence: Option<bool>) -> bool {
     let sound = !judge::malformed(&state);
 
     let bias = if sound {
-        u64::from(state[BIAS]) << 32
+        u64::from(state[BIAS]) << 8
     } else {
         27
     };
@@ -776,7 +776,7 @@ fn processes(state: State, samples: &[f32], is_silence: Option<bool>) -> Option<
         Err(overflow) => {
             expected[overflow.place..len].fill(0.0);
             let place = overflow.place as u64;
-            assert_eq!(answer, 26 | place << 32, "{state:?}, {samples:?}");
+            assert_eq!(answer, 26 | place << 8, "{state:?}, {samples:?}");
             assert_eq!(words, given, "after 26 the state is the one given");
             assert_eq!(bits(&output), bits(&expected), "{state:?}, {samples:?}");
             Some(overflow)

@@ -5,6 +5,8 @@
 
 #[path = "common/choose.rs"]
 mod choose;
+#[path = "common/detector_for_original.rs"]
+mod detector_for_original;
 #[path = "common/long.rs"]
 mod long;
 #[path = "common/random.rs"]
@@ -13,33 +15,15 @@ mod random;
 use std::ops::AddAssign;
 use std::time::Duration;
 
+use detector_for_original::{for_original, padding_samples, warmup_frames};
 use fallowcart::{VadConfig, raw};
 use long::long;
 use random::Random;
-use speech_prep::AudioTimestamp;
 
 const SECOND: u64 = 1_000_000_000;
 
 /// The latest sample that has a time.
 const LAST: u64 = 1 << 40;
-
-fn for_original(config: &VadConfig) -> speech_prep::VadConfig {
-    speech_prep::VadConfig {
-        sample_rate: config.sample_rate,
-        frame_duration: config.frame_duration,
-        frame_overlap: config.frame_overlap,
-        pre_emphasis: config.pre_emphasis,
-        activation_ratio: config.activation_ratio,
-        release_ratio: config.release_ratio,
-        min_speech_energy: config.min_speech_energy,
-        noise_smoothing: config.noise_smoothing,
-        energy_floor: config.energy_floor,
-        hangover_frames: config.hangover_frames,
-        speech_padding: config.speech_padding,
-        min_speech_frames: config.min_speech_frames,
-        stream_start_time: AudioTimestamp::from_nanos(config.stream_start_time),
-    }
-}
 
 /// The number that stands for the field which the original refuses, or 0. Its message starts with the field's name.
 fn original_refusal(config: &speech_prep::VadConfig) -> u32 {
@@ -60,19 +44,6 @@ fn original_refusal(config: &speech_prep::VadConfig) -> u32 {
         Some("min_speech_frames") => 10,
         _ => panic!("the original's refusal: {message}"),
     }
-}
-
-/// `VadDetector::with_metrics` in the original, and 0.3 s for its `WARMUP`.
-fn warmup_frames(hop_length: usize, sample_rate: u32) -> usize {
-    let hop_secs = hop_length as f64 / f64::from(sample_rate);
-    (Duration::from_millis(300).as_secs_f64() / hop_secs)
-        .ceil()
-        .max(1.0) as usize
-}
-
-/// As there.
-fn padding_samples(speech_padding: Duration, sample_rate: u32) -> usize {
-    (speech_padding.as_secs_f64() * f64::from(sample_rate)).round() as usize
 }
 
 /// `samples_to_duration` in the original, after the stream's start.

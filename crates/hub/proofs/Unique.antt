@@ -1,17 +1,11 @@
--- Two answers of the door that meet a contract are equal, and so is what it leaves in a lent slice. Where a contract's right side is a lower crate's own definition (roundings, lengths, times), that crate's Unique says it.
+-- Two answers of the door that meet a contract are equal. Where a contract's right side is a lower crate's own definition (the filter, roundings, lengths, times), that crate's Unique says it.
 use mathlib.Core.Path.{_≡_}
-use mathlib.Core.List.{List}
 use Prim.Native.Nat.{ℕ}
-use lib.Ieee.{Float, binary32, ofBits}
+use lib.Ieee.{binary32, ofBits}
 use Rattle.float.specs.Fused.{fusedOf}
 use Rattle.float.specs.Root.{rootOf}
 use Rattle.float.proofs.Unique.{only}
-use Rattle.dc_state.specs.declared.PreprocessingConfig.{PreprocessingConfig}
-use Rattle.dc_highpass.specs.declared.VadContext.{VadContext}
 use Rattle.hub.specs.Pattern.{patternOf}
-use Rattle.hub.specs.FilterDoor.{openAnswer, openState, processAnswer, processState, processOutput, resetAnswer, resetState, biasAnswer}
-
--- ---- the arithmetic
 
 module _ (x y z : ℕ) (r q : ℕ) where
   pub fused-bits-unique : r ≡ patternOf (fusedOf (ofBits binary32 x) (ofBits binary32 y) (ofBits binary32 z)) → q ≡ patternOf (fusedOf (ofBits binary32 x) (ofBits binary32 y) (ofBits binary32 z)) → r ≡ q
@@ -19,22 +13,3 @@ module _ (x y z : ℕ) (r q : ℕ) where
 
   pub root-bits-unique : r ≡ patternOf (rootOf (ofBits binary32 x)) → q ≡ patternOf (rootOf (ofBits binary32 x)) → r ≡ q
   root-bits-unique = only
-
--- ---- the filter, by its words
-
-module _ (ws : List ℕ) (r q : ℕ) (ss ts : List ℕ) where
-  pub open-unique : (c : PreprocessingConfig) (xs : List Float) → (r ≡ openAnswer c xs ws) × (ss ≡ openState c xs ws) → (q ≡ openAnswer c xs ws) × (ts ≡ openState c xs ws) → (r ≡ q) × (ss ≡ ts)
-  open-unique c xs h k = (only (h .0) (k .0), only (h .1) (k .1))
-
-  pub process-unique : (xs : List Float) (label : VadContext) (room : ℕ)
-      → (r ≡ processAnswer ws xs label room) × (ss ≡ processState ws xs label room) → (q ≡ processAnswer ws xs label room) × (ts ≡ processState ws xs label room) → (r ≡ q) × (ss ≡ ts)
-  process-unique xs label room h k = (only (h .0) (k .0), only (h .1) (k .1))
-
-  pub reset-unique : (r ≡ resetAnswer ws) × (ss ≡ resetState ws) → (q ≡ resetAnswer ws) × (ts ≡ resetState ws) → (r ≡ q) × (ss ≡ ts)
-  reset-unique h k = (only (h .0) (k .0), only (h .1) (k .1))
-
-  pub bias-unique : r ≡ biasAnswer ws → q ≡ biasAnswer ws → r ≡ q
-  bias-unique = only
-
-pub output-unique : (ws : List ℕ) (xs : List Float) (label : VadContext) (out r q : List Float) → r ≡ processOutput ws xs label out → q ≡ processOutput ws xs label out → r ≡ q
-output-unique ws xs label out r q = only

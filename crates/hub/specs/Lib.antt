@@ -1,4 +1,2 @@
 pub mod Pattern
 pub mod Settings
-pub mod FilterState
-pub mod FilterDoor

@@ -1,4 +1,6 @@
-// The door for C and Rust: the filter, the detector's settings, and the arithmetic and the score, so that tests can compare what was compiled.
+// The door for C and Rust: the detector, the filter, the detector's settings, and the arithmetic and the score, so that tests can compare what was compiled.
+mod config;
+mod detector;
 mod filter;
 mod settings;
 

@@ -3,8 +3,8 @@ ghost use mathlib.Core.Path.{_≡_};
 ghost use Rattle.vad_config.specs.Lengths.{frameLengthOf, hopLengthOf, warmupFramesOf, paddingSamplesOf, timeOfSampleOf};
 ghost use Rattle.vad_config.specs.Settings.{refusalOf};
 ghost use Rattle.hub.specs.Settings.{settingsOf};
+use crate::config::collected;
 
-// The fields of the Rust's `VadConfig` in its order, durations in nanoseconds, the optional number as a flag and a number.
 #[no_mangle]
 pub extern "C" fn fallowcart_settings_refusal(
     sample_rate: u32,
@@ -24,7 +24,7 @@ pub extern "C" fn fallowcart_settings_refusal(
 ) -> u32
     ensures { λ r. ⌜ r ≡ refusalOf (settingsOf «sample_rate» «frame_duration» «frame_overlap» «has_pre_emphasis» «pre_emphasis» «activation_ratio» «release_ratio» «min_speech_energy» «noise_smoothing» «energy_floor» «hangover_frames» «speech_padding» «min_speech_frames» «stream_start_time») ⌝ }
 {
-    let config = vad_config::VadConfig {
+    vad_config::validate(collected(
         sample_rate,
         frame_duration,
         frame_overlap,
@@ -39,8 +39,7 @@ pub extern "C" fn fallowcart_settings_refusal(
         speech_padding,
         min_speech_frames,
         stream_start_time,
-    };
-    vad_config::validate(config)
+    ))
 }
 
 #[no_mangle]

@@ -6,7 +6,7 @@ ghost use lib.Seq.{sets};
 ghost use Rattle.vad_state.specs.Arrays.{filledOf};
 
 // The numbers at the slice's start; what stands past them stays.
-fn put(to: &mut [f32], numbers: &[f32])
+pub fn put(to: &mut [f32], numbers: &[f32])
     requires { ⌜ length (now numbers) ≤ length (now to) ⌝ }
     ensures { λ _. ⌜ now (to .exit) ≡ sets (now (to .entry)) 0 (now (numbers .entry)) ⌝ }
 {

@@ -1,0 +1,2 @@
+pub mod FilterState
+pub mod FilterDoor

@@ -1,0 +1,4 @@
+pub mod Bounds
+pub mod Door
+pub mod Carried
+pub mod Unique

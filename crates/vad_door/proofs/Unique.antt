@@ -1,0 +1,46 @@
+-- Two answers of the door that meet a contract are equal, and so is what it leaves in the slices lent.
+use mathlib.Core.Path.{_≡_}
+use mathlib.Core.List.{List}
+use Prim.Native.Nat.{ℕ}
+use lib.Ieee.{Float}
+use Rattle.float.proofs.Unique.{only}
+use Rattle.vad_config.specs.declared.VadConfig.{VadConfig}
+use Rattle.vad_door.specs.DetectorDoor.{restarted, undecidedAnswer, analyzedAnswer, rowsAnswer, talkAnswer, floorAnswer, segmentAnswer}
+use Rattle.vad_door.proofs.Door.{OpenEnds, CallEnds, DetectEnds, FlushEnds}
+
+module _ (ns : List ℕ) (fs : List Float) (r q : ℕ) (ms ls : List ℕ) (gs hs : List Float) where
+  pub open-unique : (c : VadConfig) (window : List Float) (rise : Float) → OpenEnds c window rise ns fs r ms gs → OpenEnds c window rise ns fs q ls hs → (r ≡ q) × (ms ≡ ls) × (gs ≡ hs)
+  open-unique c window rise h k = (only (h .0) (k .0), only (h .1 .0) (k .1 .0), only (h .1 .1) (k .1 .1))
+
+  pub reset-unique : (start : ℕ) → CallEnds ns fs (restarted ns fs start) r ms gs → CallEnds ns fs (restarted ns fs start) q ls hs → (r ≡ q) × (ms ≡ ls) × (gs ≡ hs)
+  reset-unique start h k = (only (h .0) (k .0), only (h .1 .0) (k .1 .0), only (h .1 .1) (k .1 .1))
+
+-- ---- with the rows lent
+
+module _ (ns : List ℕ) (fs : List Float) (rows : List ℕ) (r q : ℕ) (ms ls : List ℕ) (gs hs : List Float) (new other : List ℕ) where
+  pub detect-unique : (xs : List Float) → DetectEnds ns fs xs rows r ms gs new → DetectEnds ns fs xs rows q ls hs other → (r ≡ q) × (ms ≡ ls) × (gs ≡ hs) × (new ≡ other)
+  detect-unique xs h k = (only (h .0) (k .0), only (h .1 .0) (k .1 .0), only (h .1 .1 .0) (k .1 .1 .0), only (h .1 .1 .1) (k .1 .1 .1))
+
+  pub flush-unique : FlushEnds ns fs rows r ms gs new → FlushEnds ns fs rows q ls hs other → (r ≡ q) × (ms ≡ ls) × (gs ≡ hs) × (new ≡ other)
+  flush-unique h k = (only (h .0) (k .0), only (h .1 .0) (k .1 .0), only (h .1 .1 .0) (k .1 .1 .0), only (h .1 .1 .1) (k .1 .1 .1))
+
+-- ---- readings
+
+module _ (ns : List ℕ) (fs : List Float) (r q : ℕ) where
+  pub undecided-unique : r ≡ undecidedAnswer ns fs → q ≡ undecidedAnswer ns fs → r ≡ q
+  undecided-unique = only
+
+  pub analyzed-unique : r ≡ analyzedAnswer ns fs → q ≡ analyzedAnswer ns fs → r ≡ q
+  analyzed-unique = only
+
+  pub rows-unique : r ≡ rowsAnswer ns fs → q ≡ rowsAnswer ns fs → r ≡ q
+  rows-unique = only
+
+  pub talk-unique : r ≡ talkAnswer ns fs → q ≡ talkAnswer ns fs → r ≡ q
+  talk-unique = only
+
+  pub floor-unique : r ≡ floorAnswer ns fs → q ≡ floorAnswer ns fs → r ≡ q
+  floor-unique = only
+
+  pub segment-unique : r ≡ segmentAnswer ns fs → q ≡ segmentAnswer ns fs → r ≡ q
+  segment-unique = only

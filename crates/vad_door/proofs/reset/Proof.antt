@@ -1,0 +1,67 @@
+use mathlib.Core.Path.{_≡_, sym, _∙_}
+use mathlib.Core.Bool.{true}
+use native.Mathlib.Omega.{arith}
+use borrow.Author.Tests.{not-true, not-false}
+use Rattle.vad_memory.specs.DetectorState.{readable}
+use Rattle.vad_door.specs.DetectorDoor.{restarted}
+use Rattle.vad_door.proofs.Bounds.{refused-small}
+use Rattle.vad_door.proofs.Door.{call-unread, call-kept}
+use borrow.Author.Needs.{needs}
+use Rattle.vad_door.proofs.reset.Statement.{statement}
+use Rattle.vad_door.proofs.reset.Tie as tie
+
+well-formed-requires : tie.Need-well-formed-requires
+well-formed-requires c κs = search needs
+
+same-length : tie.Need-same-length
+same-length c = search needs
+
+same-length-2 : tie.Need-same-length-2
+same-length-2 c = search needs
+
+returns : tie.Need-returns
+returns c =
+    let s = c .before .before .before .before .before .before .args in
+    let bad = sym (c .before .well-formed .ensures) ∙ not-true _ (c .if1 .taken) in
+    call-unread (s .numbers .now) (s .floats .now) (restarted (s .numbers .now) (s .floats .now) (s .stream-start-time)) bad _ (omega arith)
+
+good : (k : tie.Else1) → let s = k .before .before .before .before .before .before .args in readable (s .numbers .now) (s .floats .now) ≡ true
+good k = sym (k .before .well-formed .ensures) ∙ not-false _ (k .if1 .left)
+
+emptied-requires : tie.Need-emptied-requires
+emptied-requires c κs = good (c .before .before)
+
+keep-requires : tie.Need-keep-requires
+keep-requires c κs =
+    let done = c .before .before .emptied in
+    let k = c .before .before .before .before .before in
+    let s = k .before .before .before .before .before .before .args in
+    (good k, refused-small _ _ (done .result) (done .ensures))
+
+same-length-3 : tie.Need-same-length-3
+same-length-3 c = search needs
+
+same-length-4 : tie.Need-same-length-4
+same-length-4 c = search needs
+
+returns-2 : tie.Need-returns-2
+returns-2 c =
+    let kept = c .before .before .before .before .keep in
+    let done = c .before .before .before .before .before .before .before .emptied in
+    let k = c .before .before .before .before .before .before .before .before .before .before in
+    let s = k .before .before .before .before .before .before .args in
+    call-kept (s .numbers .now) (s .floats .now) (restarted (s .numbers .now) (s .floats .now) (s .stream-start-time)) (done .result) (done .ensures) (kept .result) (kept .last .0) (kept .last .1 .0) (kept .ensures)
+
+pub reset-spec : {M : Type 1} → statement M
+reset-spec =
+    tie.close
+    (tie.spec
+    well-formed-requires
+    same-length
+    same-length-2
+    returns
+    emptied-requires
+    keep-requires
+    same-length-3
+    same-length-4
+    returns-2)

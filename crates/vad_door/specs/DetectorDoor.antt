@@ -1,0 +1,114 @@
+-- What the detector's entry points answer through the door, and what they leave in the memory lent to them. Each is the core's answer on the state that the memory holds.
+use mathlib.Core.Bool.{Bool, true, false, _&&_, cond}
+use mathlib.Core.List.{List, [], _∷_}
+use Prim.Native.Nat.{ℕ, suc}
+use lib.Dec.{eqb}
+use lib.ListN.{length}
+use lib.Ieee.{Float, binary32, toBits}
+use Rattle.answers.specs.Answers.{packed}
+use Rattle.vad_config.specs.declared.VadConfig.{VadConfig}
+use Rattle.vad_call.specs.Calls.{noTally, refusedBy}
+use Rattle.vad_call.specs.declared.Detected.{Detected}
+use Rattle.vad_detector.specs.Opening.{openOf, resetOf}
+use Rattle.vad_detector.specs.Entries.{detectOf, detectRows, flushOf, flushRows}
+use Rattle.vad_detector.specs.Run.{Call, Detect, Flush, Reset}
+use Rattle.vad_detector.specs.Readings.{undecidedRead, analyzedRead, rowsRead, talkRead, floorRead, segmentRead}
+use Rattle.vad_detector.specs.declared.Opened.{Opened}
+use Rattle.vad_detector.specs.declared.Reading.{Reading}
+use Rattle.vad_detector.specs.declared.FloorReading.{FloorReading}
+use Rattle.vad_detector.specs.declared.SegmentReading.{SegmentReading}
+use Rattle.vad_memory.specs.DetectorState.{detectorAt, longEnough, readable, numbersWritten, floatsWritten}
+
+-- ---- opening
+
+module _ (c : VadConfig) (window : List Float) (rise : Float) (ns : List ℕ) (fs : List Float) where
+  -- memory that no state fits into is refused as malformed, and stays
+  unfoldable pub openAnswer : ℕ
+  openAnswer = cond (longEnough ns fs) (openOf c window rise .refusal) 19
+
+  -- a refused opening leaves the all-zero state
+  unfoldable pub openNumbers : List ℕ
+  openNumbers = cond (longEnough ns fs) (numbersWritten (openOf c window rise .detector) noTally ns) ns
+
+  unfoldable pub openFloats : List Float
+  openFloats = cond (longEnough ns fs) (floatsWritten (openOf c window rise .detector) fs) fs
+
+-- ---- detect and flush
+
+-- given what the core answers: a refusal, the unreadable state's 19 included, leaves the memory as it is
+module _ (ns : List ℕ) (fs : List Float) (p : Detected) where
+  unfoldable pub callAnswer : ℕ
+  callAnswer = cond (readable ns fs) (packed (p .refusal .number) (p .refusal .carries)) 19
+
+  unfoldable pub callNumbers : List ℕ
+  callNumbers = cond (readable ns fs && eqb (p .refusal .number) 0) (numbersWritten (p .detector) (p .tally) ns) ns
+
+  unfoldable pub callFloats : List Float
+  callFloats = cond (readable ns fs && eqb (p .refusal .number) 0) (floatsWritten (p .detector) fs) fs
+
+abbrev pub detected : List ℕ → List Float → List Float → ℕ → Detected
+detected ns fs xs room = detectOf (detectorAt ns fs) xs room
+
+abbrev pub flushed : List ℕ → List Float → ℕ → Detected
+flushed ns fs room = flushOf (detectorAt ns fs) room
+
+unfoldable pub detectedRows : List ℕ → List Float → List Float → List ℕ → List ℕ
+detectedRows ns fs xs rows = cond (readable ns fs) (detectRows (detectorAt ns fs) xs rows) rows
+
+unfoldable pub flushedRows : List ℕ → List Float → List ℕ → List ℕ
+flushedRows ns fs rows = cond (readable ns fs) (flushRows (detectorAt ns fs) rows) rows
+
+-- ---- reset: nothing was counted by it
+
+-- in the form of a call's answer
+abbrev pub restarted : List ℕ → List Float → ℕ → Detected
+restarted ns fs start = let r = resetOf (detectorAt ns fs) start in refusedBy (r .refusal) 0 (r .detector)
+
+-- ---- a run
+
+-- what the detector answers to a call, by what the memory holds
+unfoldable pub answered : List ℕ → List Float → Call → Detected
+answered ns fs (Detect xs room) = detected ns fs xs room
+answered ns fs (Flush room) = flushed ns fs room
+answered ns fs (Reset start) = restarted ns fs start
+
+-- the memory after calls
+unfoldable pub numbersAfter : List ℕ → List Float → List Call → List ℕ
+numbersAfter ns fs [] = ns
+numbersAfter ns fs (k ∷ ks) = numbersAfter (callNumbers ns fs (answered ns fs k)) (callFloats ns fs (answered ns fs k)) ks
+
+unfoldable pub floatsAfter : List ℕ → List Float → List Call → List Float
+floatsAfter ns fs [] = fs
+floatsAfter ns fs (k ∷ ks) = floatsAfter (callNumbers ns fs (answered ns fs k)) (callFloats ns fs (answered ns fs k)) ks
+
+-- ---- readings
+
+unfoldable pub readAnswer : List ℕ → List Float → Reading → ℕ
+readAnswer ns fs r = cond (readable ns fs) (packed (r .refusal) (r .value)) 19
+
+abbrev pub undecidedAnswer : List ℕ → List Float → ℕ
+undecidedAnswer ns fs = readAnswer ns fs (undecidedRead (detectorAt ns fs))
+
+abbrev pub analyzedAnswer : List ℕ → List Float → ℕ
+analyzedAnswer ns fs = readAnswer ns fs (analyzedRead (detectorAt ns fs))
+
+abbrev pub rowsAnswer : List ℕ → List Float → ℕ
+rowsAnswer ns fs = readAnswer ns fs (rowsRead (detectorAt ns fs))
+
+abbrev pub talkAnswer : List ℕ → List Float → ℕ
+talkAnswer ns fs = readAnswer ns fs (talkRead (detectorAt ns fs))
+
+-- carries the floor's bits
+unfoldable pub floorAnswer : List ℕ → List Float → ℕ
+floorAnswer ns fs =
+    let r = floorRead (detectorAt ns fs) in
+    cond (readable ns fs) (packed (r .refusal) (toBits binary32 (r .value))) 19
+
+-- carries 0 where no segment is open, else one more than its start
+abbrev pub startWord : SegmentReading → ℕ
+startWord r = cond (r .«is_open») (suc (r .«start_sample»)) 0
+
+unfoldable pub segmentAnswer : List ℕ → List Float → ℕ
+segmentAnswer ns fs =
+    let r = segmentRead (detectorAt ns fs) in
+    cond (readable ns fs) (packed (r .refusal) (startWord r)) 19

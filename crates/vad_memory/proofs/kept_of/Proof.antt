@@ -1,0 +1,28 @@
+use mathlib.Core.Path.{sym, ap}
+use Rattle.vad_memory.specs.DetectorState.{activeNumbers, activeEnergy}
+use borrow.Author.Needs.{needs}
+use Rattle.vad_memory.proofs.kept_of.Statement.{statement}
+use Rattle.vad_memory.proofs.kept_of.Tie as tie
+
+enum-told : tie.Need-enum-told
+enum-told c = search needs
+
+enum-known-active : tie.Need-enum-known-active
+enum-known-active c = search needs
+
+returns : tie.Need-returns
+unfolding activeNumbers activeEnergy
+returns c = let closed = c .enum-told .given .1 in (sym (ap activeNumbers closed), sym (ap activeEnergy closed))
+
+returns-2 : tie.Need-returns-2
+unfolding activeNumbers activeEnergy
+returns-2 c = let opened = c .before .active .given .1 in (sym (ap activeNumbers opened), sym (ap activeEnergy opened))
+
+pub kept-of-spec : {M : Type 1} → statement M
+kept-of-spec =
+    tie.close
+    (tie.spec
+    enum-told
+    enum-known-active
+    returns
+    returns-2)

@@ -1,0 +1,504 @@
+//! The command line as a person runs it: what it prints, what it refuses and with which words.
+
+use std::io::{BufRead, BufReader, Read, Write};
+use std::path::{Path, PathBuf};
+use std::process::{Command, Output, Stdio};
+
+use speech_prep::probe::Probe;
+
+fn root() -> PathBuf {
+    Path::new(env!("CARGO_MANIFEST_DIR")).join("..")
+}
+
+/// On a processor other than x86-64 `tools/host` names an emulator.
+fn fallowcart() -> Command {
+    let program = env!("CARGO_BIN_EXE_fallowcart");
+    match std::env::var("CARGO_TARGET_X86_64_UNKNOWN_LINUX_GNU_RUNNER") {
+        Ok(emulator) if !emulator.is_empty() => {
+            let mut command = Command::new(emulator);
+            command.arg(program);
+            command
+        }
+        _ => Command::new(program),
+    }
+}
+
+fn segments(words: &[&str]) -> Output {
+    let output = fallowcart().arg("segments").args(words).output();
+    output.expect("the program runs")
+}
+
+fn from_input(words: &[&str], bytes: &[u8]) -> Output {
+    let mut child = fallowcart()
+        .args(["segments", "-"])
+        .args(words)
+        .stdin(Stdio::piped())
+        .stdout(Stdio::piped())
+        .stderr(Stdio::piped())
+        .spawn()
+        .expect("the program runs");
+    let mut stdin = child.stdin.take().expect("piped");
+    let bytes = bytes.to_vec();
+    // The program may end before it has read all, and then writing fails.
+    let writer = std::thread::spawn(move || drop(stdin.write_all(&bytes)));
+    let output = child.wait_with_output().expect("the program ends");
+    writer.join().expect("the writer ends");
+    output
+}
+
+fn text(bytes: &[u8]) -> String {
+    String::from_utf8(bytes.to_vec()).expect("text")
+}
+
+fn printed(output: &Output) -> String {
+    assert_eq!(text(&output.stderr), "", "nothing is said");
+    assert!(output.status.success());
+    text(&output.stdout)
+}
+
+/// Refused with these words, and nothing printed.
+fn refused(output: &Output, message: &str) {
+    assert_eq!(text(&output.stderr), format!("fallowcart: {message}\n"));
+    assert_eq!(output.status.code(), Some(2));
+    assert_eq!(text(&output.stdout), "");
+}
+
+fn example() -> PathBuf {
+    root().join("examples/breakfast.s16")
+}
+
+fn example_samples() -> Vec<f32> {
+    let bytes = std::fs::read(example()).expect("the example");
+    let (words, rest) = bytes.as_chunks();
+    assert!(rest.is_empty());
+    let samples = words
+        .iter()
+        .map(|word| f32::from(i16::from_le_bytes(*word)));
+    samples.map(|sample| sample / 32_768.0).collect()
+}
+
+fn file(name: &str, bytes: &[u8]) -> String {
+    let path = PathBuf::from(env!("CARGO_TARGET_TMPDIR")).join(name);
+    std::fs::write(&path, bytes).expect("a file");
+    path.to_str().expect("a path").into()
+}
+
+fn floats(samples: &[f32]) -> Vec<u8> {
+    samples
+        .iter()
+        .flat_map(|sample| sample.to_le_bytes())
+        .collect()
+}
+
+fn shown(name: &str) -> String {
+    let path = root().join("examples").join(name);
+    std::fs::read_to_string(path).expect("what the example prints")
+}
+
+#[test]
+fn the_example_prints_what_the_repository_shows() {
+    let example = example();
+    let example = example.to_str().expect("a path");
+    assert_eq!(printed(&segments(&[example])), shown("breakfast.txt"));
+    assert_eq!(
+        printed(&segments(&[example, "--tsv"])),
+        shown("breakfast.tsv")
+    );
+    assert_eq!(
+        printed(&segments(&["--filter", "--tsv", example])),
+        shown("breakfast-filtered.tsv")
+    );
+}
+
+/// Each row's times and counts are the original's on the same samples, in the same blocks.
+#[test]
+fn the_example_s_rows_are_the_original_s() {
+    let original = Probe::open(speech_prep::VadConfig::default()).expect("the original opens");
+    let mut rows = Vec::new();
+    for block in example_samples().chunks(1024) {
+        rows.extend(original.detect(block).expect("heard").segments);
+    }
+    rows.extend(original.flush().expect("heard").segments);
+    assert!(
+        rows.len() > 3,
+        "the example has several stretches of speech"
+    );
+
+    let table = shown("breakfast.tsv");
+    let lines: Vec<Vec<&str>> = table
+        .lines()
+        .skip(1)
+        .map(|line| line.split('\t').collect())
+        .collect();
+    assert_eq!(lines.len(), rows.len());
+    for (line, row) in lines.iter().zip(&rows) {
+        assert_eq!(line[2], row.start_time.nanos().to_string());
+        assert_eq!(line[3], row.end_time.nanos().to_string());
+        assert_eq!(line[6], row.frame_count.to_string());
+        assert_eq!(line[7], row.avg_energy.to_string());
+        let confidence: f32 = line[4].parse().expect("a number");
+        assert!((confidence - row.confidence).abs() <= 0.002);
+    }
+}
+
+#[test]
+fn standard_input_and_floats_give_the_same_table() {
+    let bytes = std::fs::read(example()).expect("the example");
+    assert_eq!(
+        printed(&from_input(&["--tsv"], &bytes)),
+        shown("breakfast.tsv")
+    );
+    let bytes = floats(&example_samples());
+    assert_eq!(
+        printed(&from_input(&["--tsv", "--format", "f32"], &bytes)),
+        shown("breakfast.tsv")
+    );
+    let path = file("breakfast.f32", &bytes);
+    assert_eq!(
+        printed(&segments(&[&path, "--tsv", "--format=f32"])),
+        shown("breakfast.tsv")
+    );
+}
+
+/// A row is there before the sound that follows it.
+#[test]
+fn a_row_is_printed_as_it_closes() {
+    let bytes = std::fs::read(example()).expect("the example");
+    let mut child = fallowcart()
+        .args(["segments", "-", "--tsv"])
+        .stdin(Stdio::piped())
+        .stdout(Stdio::piped())
+        .spawn()
+        .expect("the program runs");
+    let mut stdin = child.stdin.take().expect("piped");
+    let mut lines = BufReader::new(child.stdout.take().expect("piped"));
+    let (first, rest) = bytes.split_at(bytes.len() / 2 / 2048 * 2048);
+    stdin.write_all(first).expect("read");
+    let table = shown("breakfast.tsv");
+    let halfway = table.lines().take(2);
+    for expected in halfway {
+        let mut line = String::new();
+        lines.read_line(&mut line).expect("a line");
+        assert_eq!(line.trim_end(), expected);
+    }
+    stdin.write_all(rest).expect("read");
+    drop(stdin);
+    let mut others = String::new();
+    lines.read_to_string(&mut others).expect("lines");
+    let expected: Vec<&str> = table.lines().skip(2).collect();
+    assert_eq!(others.lines().collect::<Vec<_>>(), expected);
+    assert!(child.wait().expect("it ends").success());
+}
+
+#[test]
+fn every_setting_reaches_the_detector_and_the_filter() {
+    let example = example();
+    let example = example.to_str().expect("a path");
+    let usual = printed(&segments(&[example, "--tsv"]));
+    for words in [
+        &["--rate", "8000"][..],
+        &["--format", "f32"],
+        &["--block", "7"],
+        &["--frame-duration", "30ms"],
+        &["--frame-overlap", "0.25"],
+        &["--pre-emphasis", "off"],
+        &["--activation-ratio", "12"],
+        &["--release-ratio", "2.5"],
+        &["--min-speech-energy", "0.02"],
+        &["--noise-smoothing", "0.1"],
+        &["--energy-floor", "0.004"],
+        &["--hangover-frames", "2"],
+        &["--speech-padding", "20ms"],
+        &["--min-speech-frames", "90"],
+        &["--stream-start-time", "1s"],
+        &["--filter"],
+    ] {
+        let other = segments(&[&[example, "--tsv"], words].concat());
+        if words[1..] == ["f32"] {
+            // Two 16-bit samples in a row are, sooner or later, too large a float.
+            assert_eq!(other.status.code(), Some(2), "{words:?}");
+        } else {
+            assert_ne!(printed(&other), usual, "{words:?}");
+        }
+    }
+    let filtered = printed(&segments(&[example, "--tsv", "--filter"]));
+    for words in [
+        &["--highpass-cutoff-hz", "900"][..],
+        &["--highpass-order", "2"],
+        &["--dc-bias-alpha", "0.1"],
+        &["--no-highpass"],
+        &["--no-dc-removal"],
+    ] {
+        let other = printed(&segments(
+            &[&[example, "--tsv", "--filter"], words].concat(),
+        ));
+        assert_ne!(other, filtered, "{words:?}");
+    }
+}
+
+#[test]
+fn what_was_typed_wrong_is_said() {
+    let more = |message: &str| format!("{message}\n'fallowcart --help' says more");
+    let plain = fallowcart().output().expect("the program runs");
+    refused(&plain, &more("say what to do: fallowcart segments FILE"));
+    let unknown = fallowcart().arg("cut").output().expect("the program runs");
+    refused(
+        &unknown,
+        &more("'cut' is no command: fallowcart segments FILE"),
+    );
+    for (words, message) in [
+        (
+            &[][..],
+            "no recording is named: fallowcart segments FILE, or - for standard input",
+        ),
+        (&["a", "b"], "one recording at a time: 'b' is a second one"),
+        (&["a", "--loud"], "there is no option '--loud'"),
+        (&["a", "--rate"], "--rate wants a value"),
+        (
+            &["a", "--rate", "16k"],
+            "--rate: '16k' is no whole number, or too large a one",
+        ),
+        (
+            &["a", "--rate", "8000", "--rate=8000"],
+            "--rate is given twice",
+        ),
+        (&["a", "--tsv=yes"], "--tsv takes no value"),
+        (
+            &["a", "--format", "wav"],
+            "--format: 'wav' is neither s16 nor f32",
+        ),
+        (&["a", "--block", "0"], "--block: '0' is not from 1 to 1024"),
+        (
+            &["a", "--frame-overlap", "half"],
+            "--frame-overlap: 'half' is no number",
+        ),
+        (
+            &["a", "--frame-duration", "20"],
+            "--frame-duration: '20' has no unit: write it as 20ms, with ns, us, ms or s",
+        ),
+        (
+            &["a", "--highpass-order", "3", "--filter"],
+            "--highpass-order: '3' is neither 2 nor 4",
+        ),
+        (
+            &["a", "--highpass-order", "2"],
+            "--highpass-order says nothing without --filter",
+        ),
+    ] {
+        refused(&segments(words), &more(message));
+    }
+}
+
+/// The library's own refusals, before the file is looked at.
+#[test]
+fn settings_out_of_range_are_said() {
+    for (words, message) in [
+        (
+            &["--rate", "4000"][..],
+            "the sample rate is not from 8,000 to 48,000 Hz (refusal 1)",
+        ),
+        (
+            &["--frame-duration", "0s"],
+            "the frame duration is not from 1 ns to 1 s (refusal 2)",
+        ),
+        (
+            &["--frame-overlap", "1"],
+            "the frame overlap is not in [0, 1) (refusal 3)",
+        ),
+        (
+            &["--pre-emphasis", "nan"],
+            "the pre-emphasis is not in [0, 1) (refusal 4)",
+        ),
+        (
+            &["--release-ratio", "0.9"],
+            "the release ratio is NaN, or is below 1 (refusal 5)",
+        ),
+        (
+            &["--activation-ratio", "inf"],
+            "the activation ratio is not finite, or is below the release ratio (refusal 6)",
+        ),
+        (
+            &["--min-speech-energy=-1"],
+            "the least energy of speech is not finite, or is negative (refusal 7)",
+        ),
+        (
+            &["--noise-smoothing", "1"],
+            "the smoothing of the noise floor is not in [0, 1) (refusal 8)",
+        ),
+        (
+            &["--energy-floor", "0"],
+            "the energy floor is not finite, or is not above 0 (refusal 9)",
+        ),
+        (
+            &["--min-speech-frames", "0"],
+            "the least number of speech frames is 0 (refusal 10)",
+        ),
+        (
+            &["--frame-duration", "1s"],
+            "a frame has more than 2,048 samples (refusal 11)",
+        ),
+        (
+            &["--frame-overlap", "0.99"],
+            "the warm-up has more than 300 frames (refusal 12)",
+        ),
+        (
+            &["--speech-padding", "2s"],
+            "the padding is above 1 s, the hangover or the least number of speech frames above 10,000, or the stream starts at 2^63 ns or later (refusal 13)",
+        ),
+        (
+            &["--filter", "--highpass-cutoff-hz", "10"],
+            "the high-pass cutoff is not finite, or is below 20 Hz (refusal 21)",
+        ),
+        (
+            &["--filter", "--highpass-cutoff-hz", "8000"],
+            "the high-pass cutoff is not below half the sample rate (refusal 22)",
+        ),
+        (
+            &["--filter", "--dc-bias-alpha", "1"],
+            "the smoothing of the DC bias is not in (0, 1) (refusal 23)",
+        ),
+    ] {
+        refused(&segments(&[&["no such file"], words].concat()), message);
+    }
+}
+
+#[test]
+fn input_that_cannot_be_used_is_said() {
+    refused(
+        &segments(&["no such file"]),
+        "'no such file' cannot be opened: No such file or directory (os error 2)",
+    );
+    refused(&segments(&["/"]), "'/' is a folder");
+    let odd = file("odd.s16", &[0; 4097]);
+    let bytes = "bytes, which is no whole number of";
+    refused(
+        &segments(&[&odd]),
+        &format!("'{odd}' has 4097 {bytes} s16 samples of 2 bytes"),
+    );
+    refused(
+        &segments(&[&odd, "--format", "f32"]),
+        &format!("'{odd}' has 4097 {bytes} f32 samples of 4 bytes"),
+    );
+
+    let mut samples = example_samples();
+    samples[200_000] = f32::NAN;
+    let spoilt = file("spoilt.f32", &floats(&samples));
+    let message = "sample 200000, at 0:00:12.500 of the recording, is not finite, or its magnitude is above 65,536 (refusal 16)";
+    refused(&segments(&[&spoilt, "--format", "f32"]), message);
+    refused(
+        &segments(&[&spoilt, "--format", "f32", "--filter"]),
+        message,
+    );
+}
+
+/// What came before on standard input has been printed, in whole rows.
+#[test]
+fn a_stream_that_spoils_leaves_whole_rows() {
+    let mut samples = example_samples();
+    samples[200_000] = 1e6;
+    let output = from_input(&["--tsv", "--format", "f32"], &floats(&samples));
+    let message = "fallowcart: sample 200000, at 0:00:12.500 of the recording, is not finite, or its magnitude is above 65,536 (refusal 16)\n";
+    assert_eq!(text(&output.stderr), message);
+    assert_eq!(output.status.code(), Some(2));
+    let rows = text(&output.stdout);
+    assert!(
+        rows.lines().count() > 2
+            && rows.ends_with('\n')
+            && shown("breakfast.tsv").starts_with(&rows)
+    );
+
+    let bytes = std::fs::read(example()).expect("the example");
+    let output = from_input(&["--tsv"], &bytes[..bytes.len() - 1]);
+    let message = format!(
+        "fallowcart: standard input has {} bytes, which is no whole number of s16 samples of 2 bytes\n",
+        bytes.len() - 1
+    );
+    assert_eq!(text(&output.stderr), message);
+    assert_eq!(output.status.code(), Some(2));
+}
+
+#[test]
+fn no_sound_and_no_speech_are_no_errors() {
+    let empty = file("empty.s16", &[]);
+    let table = printed(&segments(&[&empty]));
+    assert!(
+        table.ends_with("no speech in 0:00:00.000 of sound\n"),
+        "{table}"
+    );
+    let still = file("still.s16", &[0; 64_000]);
+    let table = printed(&segments(&[&still]));
+    assert!(
+        table.ends_with("no speech in 0:00:02.000 of sound\n"),
+        "{table}"
+    );
+}
+
+#[test]
+fn a_reader_that_goes_away_is_no_reason_to_complain() {
+    let mut child = fallowcart()
+        .args(["segments", "-", "--tsv"])
+        .stdin(Stdio::piped())
+        .stdout(Stdio::piped())
+        .stderr(Stdio::piped())
+        .spawn()
+        .expect("the program runs");
+    drop(child.stdout.take());
+    let mut stdin = child.stdin.take().expect("piped");
+    drop(stdin.write_all(&std::fs::read(example()).expect("the example")));
+    drop(stdin);
+    let output = child.wait_with_output().expect("it ends");
+    assert_eq!(text(&output.stderr), "");
+    assert_eq!(output.status.code(), Some(141));
+}
+
+#[test]
+fn the_help_names_every_option_and_its_default() {
+    let help = fallowcart()
+        .arg("--help")
+        .output()
+        .expect("the program runs");
+    let help = printed(&help);
+    assert_eq!(help, printed(&segments(&["--help"])));
+    assert!(help.lines().all(|line| line.chars().count() <= 100));
+    let vad = fallowcart::VadConfig::default();
+    let filter = fallowcart::PreprocessingConfig::default();
+    for (option, default) in [
+        ("--rate", vad.sample_rate.to_string()),
+        (
+            "--frame-duration",
+            format!("{}ms", vad.frame_duration.as_millis()),
+        ),
+        ("--frame-overlap", vad.frame_overlap.to_string()),
+        ("--pre-emphasis", vad.pre_emphasis.expect("on").to_string()),
+        ("--activation-ratio", vad.activation_ratio.to_string()),
+        ("--release-ratio", vad.release_ratio.to_string()),
+        ("--min-speech-energy", vad.min_speech_energy.to_string()),
+        ("--noise-smoothing", vad.noise_smoothing.to_string()),
+        ("--energy-floor", vad.energy_floor.to_string()),
+        ("--hangover-frames", vad.hangover_frames.to_string()),
+        (
+            "--speech-padding",
+            format!("{}ms", vad.speech_padding.as_millis()),
+        ),
+        ("--min-speech-frames", vad.min_speech_frames.to_string()),
+        ("--stream-start-time", format!("{}s", vad.stream_start_time)),
+        (
+            "--highpass-cutoff-hz",
+            filter.highpass_cutoff_hz.to_string(),
+        ),
+        ("--highpass-order", "4".into()),
+        ("--dc-bias-alpha", filter.dc_bias_alpha.to_string()),
+    ] {
+        let at = help
+            .find(&format!("  {option} "))
+            .unwrap_or_else(|| panic!("{option} is not named"));
+        let default = format!("[{default}]");
+        assert!(
+            help[at..]
+                .lines()
+                .take(3)
+                .any(|line| line.contains(&default)),
+            "{option} {default}"
+        );
+    }
+}

@@ -1,0 +1,422 @@
+//! The compiled detector against the original's, call by call, through the C door; demand 3's sentences on the fly; states stored and brought back.
+//!
+//! The long run: `tools/host test --release --test detector -- --ignored --nocapture`.
+
+#[path = "detector/cases.rs"]
+mod cases;
+#[path = "common/choose.rs"]
+mod choose;
+#[path = "detector/demand.rs"]
+mod demand;
+#[path = "common/detector_for_original.rs"]
+mod detector_for_original;
+#[path = "common/long.rs"]
+mod long;
+#[path = "detector/memory.rs"]
+mod memory;
+#[path = "common/random.rs"]
+mod random;
+
+use std::ops::AddAssign;
+
+use cases::{Cutting, LONGEST, Sound};
+use demand::Demand;
+use detector_for_original::for_original;
+use fallowcart::{VadConfig, raw};
+use long::long;
+use memory::{Memory, ROW, unpacked};
+use random::Random;
+use speech_prep::AudioTimestamp;
+use speech_prep::probe::{Answer, Probe};
+
+/// Segments of more loud frames are not held to the confidence: the original adds their scores up in f32.
+const CONFIDENT: u64 = 4_096;
+
+/// What the runs met.
+#[derive(Default, Debug, Clone, Copy)]
+struct Seen {
+    runs: u64,
+    samples: u64,
+    detects: u64,
+    flushes: u64,
+    resets: u64,
+    frames: u64,
+    loud: u64,
+    rows: u64,
+    /// Rows of too many loud frames to compare the confidence.
+    long_rows: u64,
+    /// The greatest difference of confidence, in millionths.
+    confidence: u64,
+    refused_13: u64,
+    refused_15: u64,
+    refused_16: u64,
+    refused_18: u64,
+    restored: u64,
+    /// Calls after which a segment was open.
+    open: u64,
+    warming: u64,
+}
+
+impl AddAssign for Seen {
+    fn add_assign(&mut self, other: Seen) {
+        self.runs += other.runs;
+        self.samples += other.samples;
+        self.detects += other.detects;
+        self.flushes += other.flushes;
+        self.resets += other.resets;
+        self.frames += other.frames;
+        self.loud += other.loud;
+        self.rows += other.rows;
+        self.long_rows += other.long_rows;
+        self.confidence = self.confidence.max(other.confidence);
+        self.refused_13 += other.refused_13;
+        self.refused_15 += other.refused_15;
+        self.refused_16 += other.refused_16;
+        self.refused_18 += other.refused_18;
+        self.restored += other.restored;
+        self.open += other.open;
+        self.warming += other.warming;
+    }
+}
+
+impl Seen {
+    fn line(&self) -> String {
+        format!(
+            "{} samples compared in {} detects, {} flushes and {} resets of {} settings: {} frames, {} of them loud, {} rows ({} too long to compare \
+             the confidence, which differs by at most {} millionths in the others); a segment was open after {} calls, {} calls were in the warm-up; {} \
+             states stored and brought back; {} calls refused (13: {}, 15: {}, 16: {}, 18: {}); 0 differences",
+            self.samples,
+            self.detects,
+            self.flushes,
+            self.resets,
+            self.runs,
+            self.frames,
+            self.loud,
+            self.rows,
+            self.long_rows,
+            self.confidence,
+            self.open,
+            self.warming,
+            self.restored,
+            self.refused_13 + self.refused_15 + self.refused_16 + self.refused_18,
+            self.refused_13,
+            self.refused_15,
+            self.refused_16,
+            self.refused_18,
+        )
+    }
+}
+
+/// The port in memory of its own, the original, and demand 3's log.
+struct Sides {
+    port: Memory,
+    original: Probe,
+    demand: Demand,
+    config: VadConfig,
+    /// Before each call the state is stored, its memory cleared and the state brought back.
+    restoring: bool,
+    rows: Vec<u64>,
+}
+
+/// Lent rows before a call: each place its own number.
+fn old(n: usize) -> u64 {
+    0xbeef_0000_0000_0000 | n as u64
+}
+
+impl Sides {
+    fn open(config: VadConfig, restoring: bool) -> Sides {
+        let original = Probe::open(for_original(&config)).expect("the original accepts more");
+        let mut port = Memory::old();
+        let window = config.window().expect("accepted");
+        let rise = config.speech_floor_rise().expect("accepted");
+        assert_eq!(port.open(&config, &window, rise), 0, "{config:?}");
+        let demand = Demand::new(&config);
+        let mut sides = Sides {
+            port,
+            original,
+            demand,
+            config,
+            restoring,
+            rows: Vec::new(),
+        };
+        sides.demand.seen(&sides.port);
+        sides
+    }
+
+    fn restore(&mut self, seen: &mut Seen) {
+        if self.restoring {
+            let stored = self.port.stored();
+            self.port = Memory::old();
+            self.port.restore(&stored);
+            seen.restored += 1;
+        }
+    }
+
+    /// A call that is refused: nothing is written anywhere.
+    fn refused(
+        &mut self,
+        refusal: u32,
+        carried: u64,
+        room: usize,
+        call: impl Fn(&mut Memory, &mut [u64]) -> u64,
+    ) {
+        let before = self.port.clone();
+        self.rows = (0..room).map(old).collect();
+        assert_eq!(
+            unpacked(call(&mut self.port, &mut self.rows)),
+            (refusal, carried),
+            "{:?}",
+            self.config
+        );
+        assert!(self.port.same(&before), "a refused call writes no state");
+        assert!(
+            self.rows.iter().enumerate().all(|(n, row)| *row == old(n)),
+            "nor rows"
+        );
+        self.demand.seen(&self.port);
+    }
+
+    /// A block, or without one the stream's end, on both sides.
+    fn call(&mut self, block: Option<&[f32]>, random: &mut Random, seen: &mut Seen) {
+        let of_port = |memory: &mut Memory, rows: &mut [u64]| match block {
+            Some(block) => memory.detect(block, rows),
+            None => memory.flush(rows),
+        };
+        self.restore(seen);
+        // Room for as many rows as there may be, or for few.
+        let room = if random.one_in(2) {
+            random.within(0, 3 * ROW as i32) as usize
+        } else {
+            60
+        };
+        self.rows.clear();
+        self.rows.extend((0..room).map(old));
+        let before = (room < 60).then(|| self.port.clone());
+        let (mut refusal, needed) = unpacked(of_port(&mut self.port, &mut self.rows));
+        if refusal == 18 {
+            let before = before.unwrap_or_else(|| self.port.clone());
+            assert!(
+                self.port.same(&before)
+                    && self.rows.iter().enumerate().all(|(n, row)| *row == old(n))
+            );
+            assert!(
+                (room / ROW) < needed as usize,
+                "{needed} rows in {room} numbers"
+            );
+            self.demand.seen(&self.port);
+            seen.refused_18 += 1;
+            self.rows.clear();
+            let room = needed as usize * ROW + random.within(0, ROW as i32 - 1) as usize;
+            self.rows.extend((0..room).map(old));
+            refusal = unpacked(of_port(&mut self.port, &mut self.rows)).0;
+        }
+        assert_eq!(refusal, 0, "{:?}", self.config);
+        let answer = match block {
+            Some(block) => self.original.detect(block),
+            None => self.original.flush(),
+        };
+        self.compare(
+            &answer.expect("the original answers"),
+            block.map_or(0, <[f32]>::len),
+            seen,
+        );
+    }
+
+    fn compare(&mut self, original: &Answer, taken: usize, seen: &mut Seen) {
+        let (port, config) = (&self.port, &self.config);
+        let [frames, loud, quiet, reported] = port.counted();
+        let stats = original.stats;
+        assert_eq!(
+            [frames, loud, quiet],
+            [
+                stats.frames_processed,
+                stats.speech_frames,
+                stats.silence_frames
+            ],
+            "frames of {config:?}"
+        );
+        assert_eq!(
+            reported,
+            original.segments.len() as u64,
+            "rows of {config:?}"
+        );
+        let floor = original.noise_floor.to_bits();
+        assert_eq!(
+            port.read(raw::vad_noise_floor),
+            u64::from(floor),
+            "floor of {config:?}"
+        );
+        assert_eq!(port.floats[4405].to_bits(), floor);
+        assert_eq!(
+            port.read(raw::vad_undecided_from),
+            self.original.undecided_from() as u64,
+            "{config:?}"
+        );
+        assert_eq!(
+            port.read(raw::vad_analyzed_until),
+            self.original.analyzed_until() as u64,
+            "{config:?}"
+        );
+        let open = self
+            .original
+            .open_start()
+            .map_or(0, |start| start as u64 + 1);
+        assert_eq!(
+            port.read(raw::vad_active_segment_start_sample),
+            open,
+            "{config:?}"
+        );
+
+        let (rows, rest) = self.rows.as_chunks::<ROW>();
+        let (rows, untouched) = rows.split_at(reported as usize);
+        let places = rows.len() * ROW;
+        let after = untouched.as_flattened().iter().chain(rest).enumerate();
+        assert!(
+            after.into_iter().all(|(n, row)| *row == old(places + n)),
+            "numbers past the rows stay"
+        );
+        for (row, chunk) in rows.iter().zip(&original.segments) {
+            let [start, end, start_time, end_time, score, loud, energy] = *row;
+            let rate = u128::from(config.sample_rate);
+            let time = |sample: u64| {
+                let nanos = (u128::from(sample) * 1_000_000_000 + rate / 2) / rate;
+                (u128::from(config.stream_start_time) + nanos) as u64
+            };
+            assert_eq!(
+                [start_time, end_time],
+                [chunk.start_time.nanos(), chunk.end_time.nanos()],
+                "{config:?}"
+            );
+            assert_eq!(
+                [time(start), time(end)],
+                [start_time, end_time],
+                "samples of {config:?}"
+            );
+            assert_eq!(loud, chunk.frame_count as u64, "{config:?}");
+            assert_eq!(energy, u64::from(chunk.avg_energy.to_bits()), "{config:?}");
+            if loud <= CONFIDENT {
+                let confidence = score as f64 / (1024 * loud) as f64;
+                let apart = (confidence - f64::from(chunk.confidence)).abs();
+                assert!(
+                    apart <= 0.002,
+                    "confidence {confidence}, {} of {config:?}",
+                    chunk.confidence
+                );
+                seen.confidence = seen.confidence.max((apart * 1e6) as u64);
+            } else {
+                seen.long_rows += 1;
+            }
+        }
+        self.demand.call(port, taken, rows);
+        seen.frames += frames;
+        seen.loud += loud;
+        seen.rows += reported;
+        seen.open += u64::from(open != 0);
+        seen.warming += u64::from(port.warming());
+    }
+
+    fn reset(&mut self, start: u64, seen: &mut Seen) {
+        self.restore(seen);
+        assert_eq!(self.port.reset(start), 0);
+        self.original.reset(AudioTimestamp::from_nanos(start));
+        self.config.stream_start_time = start;
+        self.demand = Demand::new(&self.config);
+        self.demand.seen(&self.port);
+        seen.resets += 1;
+    }
+}
+
+/// One opening and what follows, about so many samples.
+fn run(seed: u64, samples: u64, seen: &mut Seen) {
+    let mut random = Random::new(seed);
+    let config = random.config();
+    let restoring = random.one_in(4);
+    let mut sides = Sides::open(config, restoring);
+    let mut sound = Sound::new(Random::new(random.word()), &config);
+    let cutting = Cutting::new(&mut random);
+    // Some runs have none of the rare calls, so that streams get long.
+    let rare = if random.one_in(3) { u64::MAX } else { 40 };
+    seen.runs += 1;
+    let mut heard = 0;
+    let mut block = [0.0; LONGEST + 1];
+    while heard < samples {
+        if random.one_in(rare) {
+            match random.within(0, 5) {
+                0 | 1 => {
+                    sides.call(None, &mut random, seen);
+                    seen.flushes += 1;
+                }
+                2 => sides.reset(random.start(), seen),
+                3 => {
+                    let start = 1 << 63 | random.word();
+                    sides.refused(13, 0, 0, |memory, _| memory.reset(start));
+                    seen.refused_13 += 1;
+                }
+                4 => {
+                    sides.refused(15, 0, 8, |memory, rows| memory.detect(&block, rows));
+                    seen.refused_15 += 1;
+                }
+                _ => {
+                    let length = random.within(1, LONGEST as i32) as usize;
+                    let place = random.within(0, length as i32 - 1) as usize;
+                    let mut bad = block;
+                    bad[place] = random.bad_sample();
+                    sides.refused(16, place as u64, 8, |memory, rows| {
+                        memory.detect(&bad[..length], rows)
+                    });
+                    seen.refused_16 += 1;
+                }
+            }
+        }
+        let length = cutting.next_length(&mut random);
+        for sample in &mut block[..length] {
+            *sample = sound.next_sample();
+        }
+        sides.call(Some(&block[..length]), &mut random, seen);
+        seen.detects += 1;
+        heard += length.max(1) as u64;
+        seen.samples += length as u64;
+    }
+    sides.call(None, &mut random, seen);
+    seen.flushes += 1;
+}
+
+/// Every kind of call was met.
+fn covered(seen: &Seen) {
+    let counts = [
+        seen.resets,
+        seen.rows,
+        seen.open,
+        seen.warming,
+        seen.restored,
+        seen.refused_13,
+        seen.refused_15,
+        seen.refused_16,
+        seen.refused_18,
+        seen.loud,
+        seen.frames - seen.loud,
+    ];
+    assert!(counts.iter().all(|count| *count > 0), "{seen:?}");
+}
+
+#[test]
+fn runs_are_the_original_s() {
+    let mut seen = Seen::default();
+    for seed in 0..400 {
+        run(seed, 6_000, &mut seen);
+    }
+    covered(&seen);
+    println!("{}", seen.line());
+}
+
+#[test]
+#[ignore = "a long run"]
+fn long_runs_are_the_original_s() {
+    const RUNS: u64 = 20_000;
+    let (seen, time): (Seen, _) = long("detector", RUNS, |seen, block| {
+        run(1_000_000 + block, 50_400, seen);
+    });
+    covered(&seen);
+    assert!(seen.samples >= 1_000_000_000);
+    println!("{} in {} s", seen.line(), time.as_secs());
+}

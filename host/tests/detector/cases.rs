@@ -1,0 +1,261 @@
+//! Settings, sound and cuttings at random.
+
+use std::time::Duration;
+
+use fallowcart::VadConfig;
+
+use crate::random::Random;
+
+/// The largest magnitude of a sample.
+pub const FULL: f32 = 65_536.0;
+
+/// The longest block.
+pub const LONGEST: usize = 1_024;
+
+/// The float before.
+fn before(x: f32) -> f32 {
+    f32::from_bits(x.to_bits() - 1)
+}
+
+impl Random {
+    /// From 0 to below 1.
+    pub fn share(&mut self) -> f32 {
+        (self.word() >> 40) as f32 / 16_777_216.0
+    }
+
+    /// A power of two, times something from 1 to below 2.
+    fn magnitude(&mut self, low: i32, high: i32) -> f32 {
+        ((1.0 + f64::from(self.share())) * 2f64.powi(self.within(low, high))) as f32
+    }
+
+    fn rate(&mut self) -> u32 {
+        match self.within(0, 3) {
+            0 => self.within(8_000, 48_000) as u32,
+            1 => self.pick(&[8_000, 48_000]),
+            _ => self.pick(&[8_000, 11_025, 16_000, 22_050, 44_100]),
+        }
+    }
+
+    /// Frame and hop in samples: the hop at least what a warm-up of 300 frames asks for.
+    fn lengths(&mut self, rate: u32) -> (u32, u32) {
+        let least = rate.div_ceil(1_000);
+        let frame = match self.within(0, 5) {
+            0 => least,
+            1 => 2_048,
+            2 => self.within(2_000, 2_048) as u32,
+            3 => self.within(least as i32, 160.max(least as i32)) as u32,
+            _ => self.within(least as i32, 1_000) as u32,
+        };
+        let hop = match self.within(0, 4) {
+            0 => frame,
+            1 => least,
+            2 => frame.div_ceil(2).max(least),
+            _ => self.within(least as i32, frame as i32) as u32,
+        };
+        (frame, hop)
+    }
+
+    /// Settings that the library accepts, at the limits of each or inside them.
+    pub fn config(&mut self) -> VadConfig {
+        loop {
+            let rate = self.rate();
+            let (frame, hop) = self.lengths(rate);
+            let nanos = u64::from(frame) * 1_000_000_000 / u64::from(rate) + self.word() % 3;
+            let release_ratio = match self.within(0, 7) {
+                0 => 1.0,
+                1 => self.magnitude(0, 20),
+                2 => 2.0,
+                _ => 1.0 + self.share() * 4.0,
+            };
+            let activation_ratio = match self.within(0, 7) {
+                0 => release_ratio,
+                1 => 4.0f32.max(release_ratio),
+                _ => release_ratio * (1.0 + self.share() * 4.0),
+            };
+            let speech_padding = match self.within(0, 5) {
+                0 => Duration::ZERO,
+                1 => Duration::from_secs(1),
+                2 => Duration::from_nanos(self.word() % 1_000_000_001),
+                _ => Duration::from_millis(self.word() % 120),
+            };
+            let config = VadConfig {
+                sample_rate: rate,
+                frame_duration: Duration::from_nanos(nanos),
+                frame_overlap: match self.within(0, 3) {
+                    0 => self.share(),
+                    _ => 1.0 - hop as f32 / frame as f32,
+                },
+                pre_emphasis: match self.within(0, 4) {
+                    0 => None,
+                    1 => Some(self.pick(&[0.0, before(1.0), 0.97])),
+                    _ => Some(self.share()),
+                },
+                activation_ratio,
+                release_ratio,
+                min_speech_energy: match self.within(0, 5) {
+                    0 => 0.0,
+                    1 => self.magnitude(-20, 20),
+                    2 => self.pick(&[f32::MAX, f32::MIN_POSITIVE, 1e-45]),
+                    _ => self.magnitude(-20, -4),
+                },
+                noise_smoothing: match self.within(0, 4) {
+                    0 => self.pick(&[0.0, before(1.0), 0.85]),
+                    _ => self.share(),
+                },
+                energy_floor: match self.within(0, 7) {
+                    0 => self.pick(&[1e-45, f32::MIN_POSITIVE, f32::MAX, 262_144.0, 1e30]),
+                    1 => self.magnitude(-140, 20),
+                    _ => self.magnitude(-20, -4),
+                },
+                hangover_frames: match self.within(0, 7) {
+                    0 => self.pick(&[10_000, 9_999]),
+                    1 => 0,
+                    2 => self.within(0, 200) as usize,
+                    _ => self.within(0, 25) as usize,
+                },
+                speech_padding,
+                min_speech_frames: match self.within(0, 11) {
+                    0 => self.pick(&[10_000, 9_999, 300]),
+                    _ => self.within(1, 6) as usize,
+                },
+                stream_start_time: self.start(),
+            };
+            if config.validate().is_ok() {
+                return config;
+            }
+        }
+    }
+
+    pub fn start(&mut self) -> u64 {
+        match self.within(0, 3) {
+            0 => 0,
+            1 => (1 << 63) - 1,
+            _ => self.word() >> self.within(1, 40),
+        }
+    }
+
+    /// A value that no sample may have.
+    pub fn bad_sample(&mut self) -> f32 {
+        let beyond = f32::from_bits(FULL.to_bits() + 1);
+        match self.within(0, 3) {
+            0 => f32::NAN,
+            1 => self.pick(&[f32::INFINITY, f32::NEG_INFINITY]),
+            2 => self.pick(&[beyond, -beyond]),
+            _ => f32::from_bits(0x7f80_0001 | self.word() as u32),
+        }
+    }
+}
+
+/// Waves that a stretch of sound is made of.
+#[derive(Clone, Copy)]
+enum Wave {
+    Zero,
+    MinusZero,
+    Constant,
+    Alternating,
+    Noise,
+    Sine(f32),
+}
+
+/// Sound that goes on: a background, and louder stretches whose level is near the ratios that the detector asks for, or anywhere.
+pub struct Sound {
+    random: Random,
+    background: f32,
+    ratios: [f32; 2],
+    wave: Wave,
+    level: f32,
+    left: u32,
+    at: u32,
+}
+
+impl Sound {
+    pub fn new(mut random: Random, config: &VadConfig) -> Sound {
+        let background = match random.within(0, 7) {
+            0 => config.energy_floor.clamp(1e-30, 4_096.0),
+            1 => random.magnitude(-149, 15),
+            _ => random.magnitude(-16, 4),
+        };
+        let ratios = [config.activation_ratio, config.release_ratio];
+        Sound {
+            random,
+            background,
+            ratios,
+            wave: Wave::Zero,
+            level: 0.0,
+            left: 0,
+            at: 0,
+        }
+    }
+
+    fn turn(&mut self) {
+        let random = &mut self.random;
+        self.left = match random.within(0, 4) {
+            0 => random.within(1, 40),
+            1 => random.within(2_000, 20_000),
+            _ => random.within(100, 4_000),
+        } as u32;
+        self.wave = match random.within(0, 9) {
+            0 => Wave::Zero,
+            1 => Wave::MinusZero,
+            2 | 3 => Wave::Constant,
+            4 => Wave::Alternating,
+            5..=7 => Wave::Noise,
+            _ => Wave::Sine(random.share()),
+        };
+        let level = match random.within(0, 9) {
+            0 => FULL,
+            1 => random.magnitude(-149, 15),
+            2 => self.background * random.pick(&self.ratios),
+            3..=5 => self.background * random.pick(&self.ratios) * (0.5 + random.share()),
+            _ => self.background,
+        };
+        self.level = level.min(FULL);
+        if random.one_in(3) {
+            self.level = -self.level;
+        }
+    }
+
+    pub fn next_sample(&mut self) -> f32 {
+        if self.left == 0 {
+            self.turn();
+        }
+        self.left -= 1;
+        self.at = self.at.wrapping_add(1);
+        match self.wave {
+            Wave::Zero => 0.0,
+            Wave::MinusZero => -0.0,
+            Wave::Constant => self.level,
+            Wave::Alternating if self.at.is_multiple_of(2) => self.level,
+            Wave::Alternating => -self.level,
+            Wave::Noise => self.level * (2.0 * self.random.share() - 1.0),
+            Wave::Sine(pitch) => self.level * (self.at as f32 * pitch).sin(),
+        }
+    }
+}
+
+/// How a stream is cut into blocks.
+#[derive(Clone, Copy)]
+pub enum Cutting {
+    Same(usize),
+    Any(usize),
+}
+
+impl Cutting {
+    pub fn new(random: &mut Random) -> Cutting {
+        match random.within(0, 9) {
+            0 => Cutting::Same(1),
+            1 => Cutting::Same(160),
+            2..=4 => Cutting::Same(LONGEST),
+            5 => Cutting::Any(20),
+            6 => Cutting::Same(random.within(1, LONGEST as i32) as usize),
+            _ => Cutting::Any(LONGEST),
+        }
+    }
+
+    pub fn next_length(self, random: &mut Random) -> usize {
+        match self {
+            Cutting::Same(length) => length,
+            Cutting::Any(longest) => random.within(0, longest as i32) as usize,
+        }
+    }
+}

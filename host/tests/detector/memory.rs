@@ -1,0 +1,104 @@
+//! A detector in memory of the test's own, reached only through the C door.
+
+use fallowcart::{DetectorState, VadConfig, raw};
+
+pub const NUMBERS: usize = DetectorState::NUMBERS;
+pub const FLOATS: usize = DetectorState::FLOATS;
+
+/// Numbers of a row.
+pub const ROW: usize = 7;
+
+#[derive(Clone)]
+pub struct Memory {
+    pub numbers: Vec<u64>,
+    pub floats: Vec<f32>,
+}
+
+/// Refusal and what it carries.
+pub fn unpacked(answer: u64) -> (u32, u64) {
+    ((answer & 0xff) as u32, answer >> 8)
+}
+
+impl Memory {
+    /// Each place its own number, so that anything written shows.
+    pub fn old() -> Memory {
+        let numbers = (0..NUMBERS as u64).map(|n| 0xdead_0000_0000_0000 | n);
+        let floats = (0..FLOATS as u32).map(|n| f32::from_bits(0xdead_0000 | n));
+        Memory {
+            numbers: numbers.collect(),
+            floats: floats.collect(),
+        }
+    }
+
+    pub fn open(&mut self, config: &VadConfig, window: &[f32], rise: f32) -> u64 {
+        raw::vad_open(config, window, rise, &mut self.numbers, &mut self.floats)
+    }
+
+    pub fn detect(&mut self, samples: &[f32], rows: &mut [u64]) -> u64 {
+        raw::vad_detect(&mut self.numbers, &mut self.floats, samples, rows)
+    }
+
+    pub fn flush(&mut self, rows: &mut [u64]) -> u64 {
+        raw::vad_flush(&mut self.numbers, &mut self.floats, rows)
+    }
+
+    pub fn reset(&mut self, start: u64) -> u64 {
+        raw::vad_reset(&mut self.numbers, &mut self.floats, start)
+    }
+
+    pub fn read(&self, reading: fn(&[u64], &[f32]) -> u64) -> u64 {
+        let (refusal, value) = unpacked(reading(&self.numbers, &self.floats));
+        assert_eq!(refusal, 0, "a reading");
+        value
+    }
+
+    pub fn same(&self, other: &Memory) -> bool {
+        let bits = |memory: &Memory| {
+            memory
+                .floats
+                .iter()
+                .map(|x| x.to_bits())
+                .collect::<Vec<_>>()
+        };
+        self.numbers == other.numbers && bits(self) == bits(other)
+    }
+
+    /// Little endian, as a hub would write it to disk.
+    pub fn stored(&self) -> Vec<u8> {
+        let numbers = self.numbers.iter().flat_map(|n| n.to_le_bytes());
+        numbers
+            .chain(self.floats.iter().flat_map(|x| x.to_le_bytes()))
+            .collect()
+    }
+
+    pub fn restore(&mut self, bytes: &[u8]) {
+        let (numbers, floats) = bytes.split_at(8 * NUMBERS);
+        for (number, bytes) in self.numbers.iter_mut().zip(numbers.as_chunks().0) {
+            *number = u64::from_le_bytes(*bytes);
+        }
+        for (float, bytes) in self.floats.iter_mut().zip(floats.as_chunks().0) {
+            *float = f32::from_le_bytes(*bytes);
+        }
+    }
+
+    pub fn frame_length(&self) -> u64 {
+        self.numbers[7]
+    }
+
+    pub fn padding(&self) -> u64 {
+        self.numbers[10]
+    }
+
+    pub fn received(&self) -> u64 {
+        self.numbers[13]
+    }
+
+    pub fn warming(&self) -> bool {
+        self.numbers[14] == 1
+    }
+
+    /// Frames, loud and quiet ones, and rows of the latest call that was not refused.
+    pub fn counted(&self) -> [u64; 4] {
+        std::array::from_fn(|n| self.numbers[25 + n])
+    }
+}

@@ -1,0 +1,255 @@
+/*
+ * Fallowcart: a voice detector and a high-pass filter for long recordings, proved in Rattle. The library is target/staticlib/libhub.a, for x86-64.
+ *
+ * - Every function answers every input: any number, any length, any content of the memory that it is lent. It allocates nothing, keeps nothing
+ *   between calls, and may be called from any thread. Memory lent to one call must not overlap, and a pointer must be good for its length; a length
+ *   of 0 asks for a pointer that is not null all the same.
+ * - A state lives in memory of the caller's, as numbers that are documented below. It may be stored, moved and gone on with after a restart, on a
+ *   machine of the same byte order. A state that is malformed is refused, and a refused call writes nothing; the one exception is refusal 26.
+ * - Samples are f32. Positions are counted in samples from the stream's start, times are in nanoseconds.
+ */
+#ifndef FALLOWCART_H
+#define FALLOWCART_H
+
+#include <stdbool.h>
+#include <stddef.h>
+#include <stdint.h>
+
+#ifdef __cplusplus
+extern "C" {
+#endif
+
+/* ---- answers */
+
+/* An answer is one word: the refusal's number, 0 for none, in its low byte, and above it what the answer carries. */
+static inline unsigned fallowcart_refusal(uint64_t answer) { return (unsigned)(answer & 0xff); }
+static inline uint64_t fallowcart_carried(uint64_t answer) { return answer >> 8; }
+
+/*
+ * The refusals:
+ *    1  the rate is not from 8,000 to 48,000 Hz
+ *    2  the frame's duration is not from 1 to 1,000,000,000 ns
+ *    3  frame_overlap is not in [0, 1)
+ *    4  pre_emphasis is present and not in [0, 1)
+ *    5  release_ratio is NaN or below 1
+ *    6  activation_ratio is not finite, or below release_ratio
+ *    7  min_speech_energy is not finite, or negative
+ *    8  noise_smoothing is not in [0, 1)
+ *    9  energy_floor is not finite, or not positive
+ *   10  min_speech_frames is 0
+ *   11  a frame has more than 2,048 samples
+ *   12  the warm-up has more than 300 frames
+ *   13  speech_padding is above 1 s, hangover_frames or min_speech_frames above 10,000, or the stream starts at 2^63 ns or later
+ *   14  the window's length is not the frame's, an entry of it is not in [0, 1], or the rise weight is not in [0.5, 1]
+ *   15  the block is longer than 1,024 samples
+ *   16  a sample is not finite or its magnitude is above 65,536; carries its place in the block
+ *   17  more than 2^40 samples would be received
+ *   18  this call reports more rows than fit; carries the number of rows needed
+ *   19  the detector's state is malformed, or its memory is too short
+ *   20  the filter's rate is not from 8,000 to 48,000 Hz
+ *   21  the cutoff is not finite, or below 20 Hz
+ *   22  the cutoff is not below half the rate
+ *   23  dc_bias_alpha is not in (0, 1)
+ *   24  a coefficient of a stage in use is NaN or outside its range, or there are fewer than ten
+ *   25  the output is shorter than the block
+ *   26  a result of the filter is not finite; carries the sample's place. The output then holds the results before it and zeros from there to the
+ *       block's length; the filter's state is as it was
+ *   27  the filter's state is malformed, or its memory is too short
+ */
+
+/* ---- the detector */
+
+/*
+ * A detector's state: 17,864 bytes with the padding at its end. Zeros are no state: open one.
+ *
+ * numbers
+ *    0  rate                     10  padding in samples           20  the open segment's start
+ *    1  frame's duration         11  carry's length               21  .. end of its last loud frame
+ *    2  pre-emphasis present     12  carry's start                22  .. score total
+ *    3  hangover_frames          13  samples received             23  .. loud frames
+ *    4  speech_padding           14  warming up                   24  .. quiet frames since the last loud one
+ *    5  min_speech_frames        15  frames held                  25  frames judged by the latest call that was not refused
+ *    6  stream_start_time        16  last segment end             26  .. loud frames among them
+ *    7  frame's length           17  rows reported                27  .. quiet frames
+ *    8  hop's length             18  talk samples                 28  .. rows that it reported
+ *    9  warm-up frames           19  a segment is open
+ * 2, 14 and 19 are 0 or 1; 20 to 24 are 0 where no segment is open.
+ *
+ * floats
+ *       0 to 2047  the window, a frame long, then zeros
+ *    2048 to 4095  the carry: pre-emphasized values that no complete frame has used up, then zeros
+ *    4096 to 4395  the energies of the frames that the warm-up holds, then zeros
+ *    4396  frame_overlap         4400  min_speech_energy          4404  the last sample
+ *    4397  pre_emphasis          4401  noise_smoothing            4405  the noise floor
+ *    4398  activation_ratio      4402  energy_floor               4406  the open segment's energy total, or 0
+ *    4399  release_ratio         4403  the rise weight
+ */
+#define FALLOWCART_VAD_NUMBERS 29
+#define FALLOWCART_VAD_FLOATS 4407
+
+/* What the latest call counted, in the state's numbers. */
+enum { FALLOWCART_FRAMES = 25, FALLOWCART_LOUD = 26, FALLOWCART_QUIET = 27, FALLOWCART_ROWS = 28 };
+
+struct fallowcart_vad {
+    uint64_t numbers[FALLOWCART_VAD_NUMBERS];
+    float floats[FALLOWCART_VAD_FLOATS];
+};
+
+/* A row is seven numbers. Its confidence, from 0 to 1, is score_total / (1024 * loud_frames). */
+struct fallowcart_row {
+    uint64_t start_sample;
+    uint64_t end_sample;
+    uint64_t start_time;
+    uint64_t end_time;
+    uint64_t score_total;
+    uint64_t loud_frames;
+    uint64_t mean_energy; /* the f32's bits */
+};
+#define FALLOWCART_ROW_FIELDS 7
+
+/*
+ * Opens a detector: 19 where the memory is too short, which is then left as it is; else 0, or the first of refusals 1 to 14, which leaves an all-zero
+ * state. The window is a Hann window a frame long, 0.5 - 0.5 * cos(2 * pi * n / (length - 1)), and the rise weight exp(-hop / (5 * rate)).
+ */
+uint64_t fallowcart_vad_open(
+    uint32_t sample_rate,
+    uint64_t frame_duration,
+    float frame_overlap,
+    bool has_pre_emphasis,
+    float pre_emphasis,
+    float activation_ratio,
+    float release_ratio,
+    float min_speech_energy,
+    float noise_smoothing,
+    float energy_floor,
+    uint64_t hangover_frames,
+    uint64_t speech_padding,
+    uint64_t min_speech_frames,
+    uint64_t stream_start_time,
+    const float *window, size_t window_len,
+    float speech_floor_rise,
+    uint64_t *numbers, size_t numbers_len,
+    float *floats, size_t floats_len);
+
+/*
+ * Hears the next block of the stream: refusals 19, 15, 16, 17, 18. Rows, of FALLOWCART_ROW_FIELDS numbers each, fill the lent numbers from their
+ * start; what stands past them stays. After 18 call again with room for the rows that it carries.
+ */
+uint64_t fallowcart_vad_detect(
+    uint64_t *numbers, size_t numbers_len,
+    float *floats, size_t floats_len,
+    const float *samples, size_t samples_len,
+    uint64_t *rows, size_t rows_len);
+
+/* Judges what still waits for a full frame and closes the open segment: refusals 19, 18. The stream may go on after it. */
+uint64_t fallowcart_vad_flush(
+    uint64_t *numbers, size_t numbers_len,
+    float *floats, size_t floats_len,
+    uint64_t *rows, size_t rows_len);
+
+/* Forgets all that was heard, the noise floor included, and starts a new stream: refusals 19, 13. */
+uint64_t fallowcart_vad_reset(
+    uint64_t *numbers, size_t numbers_len,
+    float *floats, size_t floats_len,
+    uint64_t stream_start_time);
+
+/* Readings: refusal 19, or the value carried. */
+
+/* The first sample whose judgement can still change. Rows of later calls do not start before it. */
+uint64_t fallowcart_vad_undecided_from(const uint64_t *numbers, size_t numbers_len, const float *floats, size_t floats_len);
+/* The first sample that no complete frame has covered yet. */
+uint64_t fallowcart_vad_analyzed_until(const uint64_t *numbers, size_t numbers_len, const float *floats, size_t floats_len);
+/* 0 where no segment is open, else one more than the open segment's start. */
+uint64_t fallowcart_vad_active_segment_start_sample(const uint64_t *numbers, size_t numbers_len, const float *floats, size_t floats_len);
+/* Rows since the opening or the latest reset. */
+uint64_t fallowcart_vad_rows_reported(const uint64_t *numbers, size_t numbers_len, const float *floats, size_t floats_len);
+/* The samples of those rows. */
+uint64_t fallowcart_vad_talk_samples(const uint64_t *numbers, size_t numbers_len, const float *floats, size_t floats_len);
+/* The bits of the noise floor. */
+uint64_t fallowcart_vad_noise_floor(const uint64_t *numbers, size_t numbers_len, const float *floats, size_t floats_len);
+
+/* ---- the detector's settings */
+
+/* The first of refusals 1 to 13 that these settings meet, or 0. */
+uint32_t fallowcart_settings_refusal(
+    uint32_t sample_rate,
+    uint64_t frame_duration,
+    float frame_overlap,
+    bool has_pre_emphasis,
+    float pre_emphasis,
+    float activation_ratio,
+    float release_ratio,
+    float min_speech_energy,
+    float noise_smoothing,
+    float energy_floor,
+    uint64_t hangover_frames,
+    uint64_t speech_padding,
+    uint64_t min_speech_frames,
+    uint64_t stream_start_time);
+
+/* What follows from the settings, in samples and frames. A frame's length is 0 where refusal 1 or 2 is met. */
+uint64_t fallowcart_frame_length(uint32_t sample_rate, uint64_t frame_duration);
+uint64_t fallowcart_hop_length(uint64_t frame_length, float frame_overlap);
+uint64_t fallowcart_warmup_frames(uint64_t hop_length, uint32_t sample_rate);
+uint64_t fallowcart_padding_samples(uint64_t speech_padding, uint32_t sample_rate);
+
+/* When a sample is; 0 outside the domain. */
+uint64_t fallowcart_time_of_sample(uint64_t stream_start_time, uint32_t sample_rate, uint64_t sample);
+
+/* ---- the filter */
+
+/*
+ * A filter's state, 25 words; those of floats are their bits.
+ *    0 cutoff, 1 rate, 2 dc_bias_alpha, 3 DC removal on, 4 high-pass on, 5 order (0 second, 1 fourth)
+ *    6 to 14 the first stage, 15 to 23 the second: b0 b1 b2 a1 a2, then x1 x2 y1 y2
+ *   24 the bias
+ */
+#define FALLOWCART_FILTER_WORDS 25
+
+/*
+ * Opens a filter: 27 where the memory is too short, which is then left as it is; else 0, or the first of refusals 20 to 24, which leaves an all-zero
+ * state. The coefficients are ten: b0, b1, b2, a1, a2 of the first stage, then of the second, which second order never reads.
+ */
+uint64_t fallowcart_filter_open(
+    float highpass_cutoff_hz,
+    uint32_t sample_rate_hz,
+    float dc_bias_alpha,
+    bool enable_dc_removal,
+    bool enable_highpass,
+    bool fourth_order,
+    const float *coefficients, size_t coefficients_len,
+    uint32_t *state, size_t state_len);
+
+/* Filters a block into the output: refusals 27, 15, 25, 16, 26. The bias follows blocks that are silent, and those without a context. */
+uint64_t fallowcart_filter_process(
+    uint32_t *state, size_t state_len,
+    const float *samples, size_t samples_len,
+    bool has_context,
+    bool is_silence,
+    float *output, size_t output_len);
+
+/* Forgets the sound, the bias included: refusal 27. */
+uint64_t fallowcart_filter_reset(uint32_t *state, size_t state_len);
+
+/* Refusal 27, or the bits of the bias carried. */
+uint64_t fallowcart_filter_bias(const uint32_t *state, size_t state_len);
+
+/* ---- arithmetic, so that tests can hold what was compiled to the processor's own */
+
+/* Bits of a * b + c rounded once, and of the root of x; 2^32 where there is no finite number. */
+uint64_t fallowcart_fused_bits(uint32_t a, uint32_t b, uint32_t c);
+uint64_t fallowcart_root_bits(uint32_t x);
+/* The score of the ratio with these bits, 0 to 1,024. */
+uint64_t fallowcart_score_bits(uint32_t ratio);
+/* The f32 nearest to a count. */
+float fallowcart_nearest(uint64_t n);
+/* Rounded half away from zero, and up: 0 for NaN and below 0, the largest number above 64 bits. */
+uint64_t fallowcart_round_f32(float x);
+uint64_t fallowcart_round_f64(double x);
+uint64_t fallowcart_ceil_f64(double x);
+
+#ifdef __cplusplus
+}
+#endif
+
+#endif
