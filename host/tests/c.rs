@@ -41,5 +41,5 @@ fn a_c_program_uses_the_door() {
     let ran = ran.expect("the program runs");
     let said = String::from_utf8_lossy(&ran.stderr);
     assert!(ran.status.success(), "{said}");
-    assert_eq!(String::from_utf8_lossy(&ran.stdout), "78 facts held\n");
+    assert_eq!(String::from_utf8_lossy(&ran.stdout), "100 facts held\n");
 }

@@ -198,7 +198,6 @@ fn every_setting_reaches_the_detector_and_the_filter() {
     for words in [
         &["--rate", "8000"][..],
         &["--format", "f32"],
-        &["--block", "7"],
         &["--frame-duration", "30ms"],
         &["--frame-overlap", "0.25"],
         &["--pre-emphasis", "off"],
@@ -221,6 +220,10 @@ fn every_setting_reaches_the_detector_and_the_filter() {
             assert_ne!(printed(&other), usual, "{words:?}");
         }
     }
+    // Where a segment's padding reaches past the sound that a small block has brought, its row ends there.
+    let quick = [example, "--tsv", "--hangover-frames", "0"];
+    let small = [&quick[..], &["--block", "7"]].concat();
+    assert_ne!(printed(&segments(&small)), printed(&segments(&quick)));
     let filtered = printed(&segments(&[example, "--tsv", "--filter"]));
     for words in [
         &["--highpass-cutoff-hz", "900"][..],

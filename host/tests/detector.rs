@@ -22,7 +22,7 @@ use std::ops::AddAssign;
 use cases::{Cutting, LONGEST, Sound};
 use demand::Demand;
 use detector_for_original::for_original;
-use fallowcart::{VadConfig, raw};
+use fallowcart::VadConfig;
 use long::long;
 use memory::{Memory, ROW, unpacked};
 use random::Random;
@@ -139,7 +139,7 @@ impl Sides {
             restoring,
             rows: Vec::new(),
         };
-        sides.demand.seen(&sides.port);
+        sides.demand.seen(&sides.port, &sides.port.readings());
         sides
     }
 
@@ -173,7 +173,7 @@ impl Sides {
             self.rows.iter().enumerate().all(|(n, row)| *row == old(n)),
             "nor rows"
         );
-        self.demand.seen(&self.port);
+        self.demand.seen(&self.port, &self.port.readings());
     }
 
     /// A block, or without one the stream's end, on both sides.
@@ -203,7 +203,7 @@ impl Sides {
                 (room / ROW) < needed as usize,
                 "{needed} rows in {room} numbers"
             );
-            self.demand.seen(&self.port);
+            self.demand.seen(&self.port, &self.port.readings());
             seen.refused_18 += 1;
             self.rows.clear();
             let room = needed as usize * ROW + random.within(0, ROW as i32 - 1) as usize;
@@ -240,32 +240,19 @@ impl Sides {
             original.segments.len() as u64,
             "rows of {config:?}"
         );
+        let readings = port.readings();
         let floor = original.noise_floor.to_bits();
         assert_eq!(
-            port.read(raw::vad_noise_floor),
-            u64::from(floor),
+            [readings.floor, port.floats[4405].to_bits()],
+            [floor; 2],
             "floor of {config:?}"
         );
-        assert_eq!(port.floats[4405].to_bits(), floor);
-        assert_eq!(
-            port.read(raw::vad_undecided_from),
-            self.original.undecided_from() as u64,
-            "{config:?}"
-        );
-        assert_eq!(
-            port.read(raw::vad_analyzed_until),
-            self.original.analyzed_until() as u64,
-            "{config:?}"
-        );
-        let open = self
-            .original
-            .open_start()
-            .map_or(0, |start| start as u64 + 1);
-        assert_eq!(
-            port.read(raw::vad_active_segment_start_sample),
-            open,
-            "{config:?}"
-        );
+        let undecided = self.original.undecided_from() as u64;
+        assert_eq!(readings.undecided, undecided, "{config:?}");
+        let analyzed = self.original.analyzed_until() as u64;
+        assert_eq!(readings.analyzed, analyzed, "{config:?}");
+        let open = self.original.open_start().map(|start| start as u64);
+        assert_eq!(readings.open, open, "{config:?}");
 
         let (rows, rest) = self.rows.as_chunks::<ROW>();
         let (rows, untouched) = rows.split_at(reported as usize);
@@ -307,11 +294,11 @@ impl Sides {
                 seen.long_rows += 1;
             }
         }
-        self.demand.call(port, taken, rows);
+        self.demand.call(port, &readings, taken, rows);
         seen.frames += frames;
         seen.loud += loud;
         seen.rows += reported;
-        seen.open += u64::from(open != 0);
+        seen.open += u64::from(open.is_some());
         seen.warming += u64::from(port.warming());
     }
 
@@ -321,13 +308,13 @@ impl Sides {
         self.original.reset(AudioTimestamp::from_nanos(start));
         self.config.stream_start_time = start;
         self.demand = Demand::new(&self.config);
-        self.demand.seen(&self.port);
+        self.demand.seen(&self.port, &self.port.readings());
         seen.resets += 1;
     }
 }
 
-/// One opening and what follows, about so many samples.
-fn run(seed: u64, samples: u64, seen: &mut Seen) {
+/// One opening and what follows, about so many samples or so many calls.
+fn run(seed: u64, samples: u64, calls: u64, seen: &mut Seen) {
     let mut random = Random::new(seed);
     let config = random.config();
     let restoring = random.one_in(4);
@@ -337,9 +324,10 @@ fn run(seed: u64, samples: u64, seen: &mut Seen) {
     // Some runs have none of the rare calls, so that streams get long.
     let rare = if random.one_in(3) { u64::MAX } else { 40 };
     seen.runs += 1;
-    let mut heard = 0;
+    let (mut heard, mut called) = (0, 0);
     let mut block = [0.0; LONGEST + 1];
-    while heard < samples {
+    while heard < samples && called < calls {
+        called += 1;
         if random.one_in(rare) {
             match random.within(0, 5) {
                 0 | 1 => {
@@ -374,7 +362,7 @@ fn run(seed: u64, samples: u64, seen: &mut Seen) {
         }
         sides.call(Some(&block[..length]), &mut random, seen);
         seen.detects += 1;
-        heard += length.max(1) as u64;
+        heard += length as u64;
         seen.samples += length as u64;
     }
     sides.call(None, &mut random, seen);
@@ -402,8 +390,8 @@ fn covered(seen: &Seen) {
 #[test]
 fn runs_are_the_original_s() {
     let mut seen = Seen::default();
-    for seed in 0..400 {
-        run(seed, 6_000, &mut seen);
+    for seed in 0..120 {
+        run(seed, 50_000, 120, &mut seen);
     }
     covered(&seen);
     println!("{}", seen.line());
@@ -414,7 +402,7 @@ fn runs_are_the_original_s() {
 fn long_runs_are_the_original_s() {
     const RUNS: u64 = 20_000;
     let (seen, time): (Seen, _) = long("detector", RUNS, |seen, block| {
-        run(1_000_000 + block, 50_400, seen);
+        run(1_000_000 + block, 80_000, 400, seen);
     });
     covered(&seen);
     assert!(seen.samples >= 1_000_000_000);

@@ -64,16 +64,13 @@ gathered-values d xs coeff e = ap (λ (c : Float). take (d .«carry_len») (d .c
 
 -- ---- waiting
 module _ (d : VadDetector) where
-  pub waiting-on : Sound d → length (d .warmup) ≡ 300 → d .warming ≡ true → d .held ≡ length (waitingOf d)
+  pub waiting-count : Sound d → length (d .warmup) ≡ 300 → cond (d .warming) (d .held) 0 ≡ length (waitingOf d)
   unfolding waitingOf heldOf
-  waiting-on s long on =
-      let few = s .held on .few in
-      let high = warmup-high d s in
-      rw on (sym (length-take-le (d .held) (d .warmup) (omega arith)))
-
-  pub waiting-off : d .warming ≡ false → 0 ≡ length (waitingOf d)
-  unfolding waitingOf
-  waiting-off off = rw off
+  waiting-count s long = go (d .warming) refl
+    where
+      go : (b : Bool) → d .warming ≡ b → cond b (d .held) 0 ≡ length (cond b (take (d .held) (d .warmup)) [])
+      go true on = let few = s .held on .few in let high = warmup-high d s in sym (length-take-le (d .held) (d .warmup) (omega arith))
+      go false off = refl
 
   -- fewer than the warm-up's count
   pub waiting-few : Sound d → length (waitingOf d) ≤ 300
@@ -192,13 +189,13 @@ seeded-rows d due = go (d .warming)
     go true = refl
     go false = refl
 
-pub grid-low : (d : VadDetector) → Sound d → gridStart d ≤ 2 ^ 41
+pub grid-low : (d : VadDetector) → d .«carry_start» ≤ 2 ^ 41 → gridStart d ≤ 2 ^ 41
 unfolding gridStart
-grid-low d s = go (d .warming)
+grid-low d low = go (d .warming)
   where
     go : (b : Bool) → cond b 0 (d .«carry_start») ≤ 2 ^ 41
     go true = omega arith
-    go false = let j = s .joined in let r = s .received in omega arith
+    go false = low
 
 module _ (finish : Bool) (d : VadDetector) (received : ℕ) (due : List Float) (t : Track) (e : t ≡ seededOf d due) (first : ℕ) (f : first ≡ gridStart d) where
   pub verdict-is : (c : Classified) → c ≡ classifiedOf finish (d .rules) received t (framesAt (d .rules .lengths) received first due) → c ≡ verdictOf finish d received due
@@ -239,7 +236,7 @@ needed-due finish d received due c e n g = let more = rows-more finish d receive
 -- ---- judge
 module _ (finish : Bool) (d : VadDetector) (es : List Float) (holds : Bool) (h : holds ≡ holdingWith finish d (length es)) where
   -- the energies are held or judged, all of them
-  due-is : (due : List Float) → due ≡ cond holds [] es → due ≡ dueOf finish d es
+  pub due-is : (due : List Float) → due ≡ cond holds [] es → due ≡ dueOf finish d es
   unfolding dueOf holdingOf
   due-is due u = u ∙ ap (λ (b : Bool). cond b [] es) h
 
@@ -308,23 +305,23 @@ total-few d s n l = let short = s .short in let high = frame-high d s in omega a
 
 module _ (finish : Bool) (d : VadDetector) (s : Sound d) (xs : List Float) (most : length xs ≤ 1024) (wide : length (d .window) ≡ 2048) (long : length (d .carry) ≡ 2048)
     (blank values : List Float) (b : length blank ≡ 3072) (v : values ≡ sets blank 0 (valuesOf d xs)) where
-  values-many : length (valuesOf d xs) ≡ d .«carry_len» + length xs
+  pub values-many : length (valuesOf d xs) ≡ d .«carry_len» + length xs
   values-many = let short = s .short in let high = frame-high d s in values-length d xs long (omega arith)
 
-  values-back : take (d .«carry_len» + length xs - 0) values ≡ valuesOf d xs
+  pub values-back : take (d .«carry_len» + length xs - 0) values ≡ valuesOf d xs
   values-back =
       let few = total-few d s (length xs) most in
       from-start (d .«carry_len» + length xs) values ∙ ap (take (d .«carry_len» + length xs)) v ∙ put-back blank (valuesOf d xs) (d .«carry_len» + length xs) values-many (omega arith)
 
   module _ (consumed : ℕ) (c : consumed ≡ consumedFrom finish d (take (d .«carry_len» + length xs - 0) values)) where
-    consumed-is : consumed ≡ consumedFrom finish d (valuesOf d xs)
+    pub consumed-is : consumed ≡ consumedFrom finish d (valuesOf d xs)
     consumed-is = c ∙ ap (consumedFrom finish d) values-back
 
     pub consumed-few : consumed ≤ d .«carry_len» + length xs
     unfolding consumedFrom
     consumed-few = let le = consumed-le finish (windowOf d) (d .rules .lengths .«hop_length») (valuesOf d xs) in omega (arith, consumed-is, values-many)
 
-    carry-back : take (d .«carry_len» + length xs - consumed) (drop consumed values) ≡ carryAfter finish d xs
+    pub carry-back : take (d .«carry_len» + length xs - consumed) (drop consumed values) ≡ carryAfter finish d xs
     unfolding carryAfter
     carry-back =
         let few = total-few d s (length xs) most in
@@ -344,7 +341,7 @@ module _ (finish : Bool) (d : VadDetector) (s : Sound d) (xs : List Float) (most
           let m = measured-few finish d s (take (d .«carry_len» + length xs - 0) values) (omega arith) in
           omega arith
 
-      energies-back : take (frames - 0) energies ≡ measuredOf finish d xs
+      pub energies-back : take (frames - 0) energies ≡ measuredOf finish d xs
       unfolding measuredOf
       energies-back =
           let fit = frames-fit in

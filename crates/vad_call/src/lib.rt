@@ -8,17 +8,21 @@ ghost use lib.Seq.{sets};
 ghost use Rattle.vad_frames.specs.Emphasis.{emphasized, lastOf};
 ghost use Rattle.vad_frames.specs.Grid.{framesOf, energiesOf, framedOf};
 ghost use Rattle.vad_segments.specs.Closing.{roomOf, flat};
+ghost use Rattle.vad_segments.specs.Rooms.{LengthsWithin, Within};
+ghost use Rattle.vad_state.specs.Kept.{hollowOf};
 ghost use Rattle.vad_state.specs.State.{soundOf};
-ghost use Rattle.vad_call.specs.Calls.{waitingOf, holdingWith, dueOf, seededOf, gridStart, verdictOf, rowsDue, advancedOf, refusedBy, acceptedOf, tooMany, reportedIn, ranOf, writtenOf};
+ghost use Rattle.vad_call.specs.Calls.{holdingWith, dueOf, seededOf, gridStart, verdictOf, rowsDue, advancedOf, refusedBy, acceptedOf, tooMany, reportedIn, ranOf, writtenOf};
 use vad_classify::Classified;
 use vad_classify::ROW_FIELDS;
 use vad_frames::Framed;
 use vad_segments::Track;
+use vad_state::Kept;
 use vad_state::VadDetector;
 use vad_state::arrays::clear_past;
 use vad_state::arrays::fill;
 use vad_state::arrays::fill_warmup;
 use vad_state::arrays::put_first;
+use vad_state::kept_of;
 
 // The number of a refusal, 0 for none, and what it carries: 16 the sample's place, 18 the rows needed.
 pub struct Refusal {
@@ -50,7 +54,7 @@ pub struct Progress {
 }
 
 // The carry, then the block's values; answers the block's last raw sample.
-fn gather(
+pub fn gather(
     carry: &[f32],
     carry_len: usize,
     coeff: f32,
@@ -67,12 +71,11 @@ fn gather(
 }
 
 // How many frames are held from earlier calls.
-fn waiting(detector: VadDetector) -> usize
-    requires { ⌜ soundOf detector ≡ true ⌝ }
-    ensures { λ r. ⌜ r ≡ length (waitingOf detector) ⌝ }
+pub fn waiting(kept: Kept) -> usize
+    ensures { λ r. ⌜ r ≡ cond (kept .warming) (kept .held) 0 ⌝ }
 {
-    if detector.warming {
-        return detector.held;
+    if kept.warming {
+        return kept.held;
     }
     0
 }
@@ -102,7 +105,7 @@ fn frame_values(
 
 // The energies held, then those of the frames in the values; answers how many they are in all, and how many values were used up.
 // The window and the warm-up have one lifetime, as two fields of one state that are lent at once.
-fn measure<'a>(
+pub fn measure<'a>(
     window: &'a [f32],
     frame_length: usize,
     hop_length: usize,
@@ -135,17 +138,17 @@ fn measure<'a>(
 }
 
 // Whether frames go on being held.
-fn holding(detector: VadDetector, finish: bool, frames: usize) -> bool
-    ensures { λ r. ⌜ r ≡ holdingWith finish detector frames ⌝ }
+fn holding(kept: Kept, finish: bool, frames: usize) -> bool
+    ensures { λ r. ⌜ r ≡ holdingWith finish (hollowOf kept) frames ⌝ }
 {
-    if !detector.warming {
+    if !kept.warming {
         return false;
     }
-    vad_segments::positions::holds(finish, detector.rules.lengths.warmup_frames, frames)
+    vad_segments::positions::holds(finish, kept.rules.lengths.warmup_frames, frames)
 }
 
 // The energies if they are held, else none.
-fn only_if(holds: bool, energies: &[f32]) -> &[f32]
+pub fn only_if(holds: bool, energies: &[f32]) -> &[f32]
     ensures { λ r. ⌜ now r ≡ cond holds (now (energies .entry)) [] ⌝ }
 {
     if holds {
@@ -165,69 +168,58 @@ fn unless(holds: bool, energies: &[f32]) -> &[f32]
 }
 
 // The track that the frames are judged from: as warm-up ends, its floor is the background's.
-fn seeded(detector: VadDetector, due: &[f32]) -> Track
-    ensures { λ r. ⌜ r ≡ seededOf detector (now (due .entry)) ⌝ }
+fn seeded(kept: Kept, due: &[f32]) -> Track
+    ensures { λ r. ⌜ r ≡ seededOf (hollowOf kept) (now (due .entry)) ⌝ }
 {
-    let mut track = detector.track;
-    if !detector.warming {
+    let mut track = kept.track;
+    if !kept.warming {
         return track;
     }
-    track.noise_floor = vad_segments::seed(
-        detector.rules.config.energy_floor,
-        track.noise_floor,
-        due,
-    );
+    track.noise_floor = vad_segments::seed(kept.rules.config.energy_floor, track.noise_floor, due);
     track
 }
 
-fn grid_start(detector: VadDetector) -> u64
-    ensures { λ r. ⌜ r ≡ gridStart detector ⌝ }
+fn grid_start(kept: Kept) -> u64
+    ensures { λ r. ⌜ r ≡ gridStart (hollowOf kept) ⌝ }
 {
-    if detector.warming {
+    if kept.warming {
         return 0;
     }
-    detector.carry_start
+    kept.carry_start
 }
 
-fn verdict(detector: VadDetector, received: u64, due: &[f32], finish: bool) -> Classified
-    requires { ⌜ soundOf detector ≡ true ⌝ }
-    requires { ⌜ (received ≤ 2 ^ 40) × (length (now due) ≤ 1024) ⌝ }
-    ensures { λ r. ⌜ r ≡ verdictOf finish detector received (now (due .entry)) ⌝ }
+fn verdict(kept: Kept, received: u64, due: &[f32], finish: bool) -> Classified
+    requires { ⌜ LengthsWithin (kept .rules .lengths) × Within (2 ^ 41) (2 ^ 60) (kept .track) ⌝ }
+    requires { ⌜ (kept .«carry_start» ≤ 2 ^ 41) × (received ≤ 2 ^ 41) × (length (now due) ≤ 1024) ⌝ }
+    ensures { λ r. ⌜ r ≡ verdictOf finish (hollowOf kept) received (now (due .entry)) ⌝ }
 {
-    let rules = detector.rules;
+    let rules = kept.rules;
     vad_classify::classify(
         rules,
         received,
-        seeded(detector, due),
-        grid_start(detector),
+        seeded(kept, due),
+        grid_start(kept),
         due,
         finish,
     )
 }
 
 // The rows, judged once more: most calls have none.
-fn report(
-    detector: VadDetector,
-    received: u64,
-    due: &[f32],
-    finish: bool,
-    needed: u64,
-    rows: &mut [u64],
-)
-    requires { ⌜ soundOf detector ≡ true ⌝ }
-    requires { ⌜ (received ≤ 2 ^ 40) × (length (now due) ≤ 1024) ⌝ }
-    requires { ⌜ (needed ≡ length (rowsDue finish detector received (now due))) × (needed ≤ roomOf (length (now rows))) ⌝ }
-    ensures { λ _. ⌜ now (rows .exit) ≡ sets (now (rows .entry)) 0 (flat (rowsDue finish detector received (now (due .entry)))) ⌝ }
+fn report(kept: Kept, received: u64, due: &[f32], finish: bool, needed: u64, rows: &mut [u64])
+    requires { ⌜ LengthsWithin (kept .rules .lengths) × Within (2 ^ 41) (2 ^ 60) (kept .track) ⌝ }
+    requires { ⌜ (kept .«carry_start» ≤ 2 ^ 41) × (received ≤ 2 ^ 41) × (length (now due) ≤ 1024) ⌝ }
+    requires { ⌜ (needed ≡ length (rowsDue finish (hollowOf kept) received (now due))) × (needed ≤ roomOf (length (now rows))) ⌝ }
+    ensures { λ _. ⌜ now (rows .exit) ≡ sets (now (rows .entry)) 0 (flat (rowsDue finish (hollowOf kept) received (now (due .entry)))) ⌝ }
 {
     if needed == 0 {
         return;
     }
-    let rules = detector.rules;
+    let rules = kept.rules;
     vad_classify::write_rows(
         rules,
         received,
-        seeded(detector, due),
-        grid_start(detector),
+        seeded(kept, due),
+        grid_start(kept),
         due,
         finish,
         rows,
@@ -309,31 +301,25 @@ pub fn refused(number: u32, carries: usize, detector: VadDetector) -> Detected
 }
 
 // What the frames come to: whether they are held, and the rows that they need; 18 is known before a row is written.
-struct Judged {
+pub struct Judged {
     pub refused: bool,
     pub holds: bool,
     pub needed: u64,
     pub classified: Classified,
 }
 
-// Holds the energies or judges them. The state's arrays stand in neither what it reads nor its answer.
-fn judge(
-    detector: VadDetector,
-    received: u64,
-    energies: &[f32],
-    finish: bool,
-    rows: &mut [u64],
-) -> Judged
-    requires { ⌜ soundOf detector ≡ true ⌝ }
-    requires { ⌜ (received ≤ 2 ^ 40) × (length (now energies) ≤ 1024) ⌝ }
-    ensures { λ r. ⌜ (r .refused ≡ tooMany (rowsDue finish detector received (dueOf finish detector (now (energies .entry)))) (length (now (rows .entry)))) × (r .holds ≡ holdingWith finish detector (length (now (energies .entry)))) ⌝ }
-    ensures { λ r. ⌜ (r .needed ≡ length (rowsDue finish detector received (dueOf finish detector (now (energies .entry))))) × (r .classified ≡ verdictOf finish detector received (dueOf finish detector (now (energies .entry)))) ⌝ }
-    ensures { λ _. ⌜ now (rows .exit) ≡ reportedIn (rowsDue finish detector received (dueOf finish detector (now (energies .entry)))) (now (rows .entry)) ⌝ }
+// Holds the energies or judges them. No array of the state stands in what it reads or answers.
+pub fn judge(kept: Kept, received: u64, energies: &[f32], finish: bool, rows: &mut [u64]) -> Judged
+    requires { ⌜ LengthsWithin (kept .rules .lengths) × Within (2 ^ 41) (2 ^ 60) (kept .track) ⌝ }
+    requires { ⌜ (kept .«carry_start» ≤ 2 ^ 41) × (received ≤ 2 ^ 41) × (length (now energies) ≤ 1024) ⌝ }
+    ensures { λ r. ⌜ (r .refused ≡ tooMany (rowsDue finish (hollowOf kept) received (dueOf finish (hollowOf kept) (now (energies .entry)))) (length (now (rows .entry)))) × (r .holds ≡ holdingWith finish (hollowOf kept) (length (now (energies .entry)))) ⌝ }
+    ensures { λ r. ⌜ (r .needed ≡ length (rowsDue finish (hollowOf kept) received (dueOf finish (hollowOf kept) (now (energies .entry))))) × (r .classified ≡ verdictOf finish (hollowOf kept) received (dueOf finish (hollowOf kept) (now (energies .entry)))) ⌝ }
+    ensures { λ _. ⌜ now (rows .exit) ≡ reportedIn (rowsDue finish (hollowOf kept) received (dueOf finish (hollowOf kept) (now (energies .entry)))) (now (rows .entry)) ⌝ }
 {
-    let holds = holding(detector, finish, energies.len());
+    let holds = holding(kept, finish, energies.len());
     let due = unless(holds, energies);
-    let classified = verdict(detector, received, due, finish);
-    let needed = classified.track.rows_reported - detector.track.rows_reported;
+    let classified = verdict(kept, received, due, finish);
+    let needed = classified.track.rows_reported - kept.track.rows_reported;
     if ((rows.len() / ROW_FIELDS) as u64) < needed {
         return Judged {
             refused: true,
@@ -342,7 +328,7 @@ fn judge(
             classified,
         };
     }
-    report(detector, received, due, finish, needed, rows);
+    report(kept, received, due, finish, needed, rows);
     Judged {
         refused: false,
         holds,
@@ -358,6 +344,7 @@ pub fn run(detector: VadDetector, samples: &[f32], finish: bool, rows: &mut [u64
     ensures { λ r. ⌜ r ≡ ranOf finish detector (now (samples .entry)) (length (now (rows .entry))) ⌝ }
     ensures { λ _. ⌜ now (rows .exit) ≡ writtenOf finish detector (now (samples .entry)) (now (rows .entry)) ⌝ }
 {
+    let numbers = kept_of(detector);
     let mut values = [0.0; 3072];
     let coeff = vad_frames::coefficient(
         detector.rules.config.has_pre_emphasis,
@@ -373,7 +360,7 @@ pub fn run(detector: VadDetector, samples: &[f32], finish: bool, rows: &mut [u64
     );
     let total = detector.carry_len + samples.len();
     let mut energies = [0.0; 1024];
-    let held = waiting(detector);
+    let held = waiting(numbers);
     let framed = measure(
         &detector.window,
         detector.rules.lengths.frame_length,
@@ -389,7 +376,7 @@ pub fn run(detector: VadDetector, samples: &[f32], finish: bool, rows: &mut [u64
     let processed_samples = detector.processed_samples + samples.len() as u64;
     let carry_start = detector.carry_start + consumed as u64;
     let judged = judge(
-        detector,
+        numbers,
         processed_samples,
         &energies[0..frames],
         finish,

@@ -1,4 +1,5 @@
 pub mod Parts
+pub mod Wholes
 pub mod Tests
 pub mod Fills
 pub mod Unique

@@ -8,11 +8,19 @@ use lib.Seq.{sets}
 use lib.Ieee.{Float}
 use Rattle.float.proofs.Unique.{only}
 use Rattle.vad_state.specs.State.{handedIn, soundOf}
+use Rattle.vad_state.specs.Kept.{keptOf, wholeOf}
 use Rattle.vad_state.specs.Arrays.{filledOf}
 use Rattle.vad_state.specs.declared.VadDetector.{VadDetector}
+use Rattle.vad_state.specs.declared.Kept.{Kept}
+
+pub kept-of-unique : (d : VadDetector) (r q : Kept) → r ≡ keptOf d → q ≡ keptOf d → r ≡ q
+kept-of-unique d r q = only
 
 pub sound-unique : (d : VadDetector) (r q : Bool) → r ≡ soundOf d → q ≡ soundOf d → r ≡ q
 sound-unique d r q = only
+
+pub sound-lent-unique : (k : Kept) (window carry warmup : List Float) (r q : Bool) → r ≡ soundOf (wholeOf k window carry warmup) → q ≡ soundOf (wholeOf k window carry warmup) → r ≡ q
+sound-lent-unique k window carry warmup r q = only
 
 pub handed-in-unique : (window : List Float) (rise : Float) (r q : Bool) → r ≡ handedIn window rise → q ≡ handedIn window rise → r ≡ q
 handed-in-unique window rise r q = only
@@ -20,6 +28,9 @@ handed-in-unique window rise r q = only
 -- of `filled` and the two that fill in place
 pub filled-unique : (n : ℕ) (xs r q : List Float) → r ≡ filledOf n xs → q ≡ filledOf n xs → r ≡ q
 filled-unique n xs r q = only
+
+pub put-unique : (to xs r q : List Float) → r ≡ sets to 0 xs → q ≡ sets to 0 xs → r ≡ q
+put-unique to xs r q = only
 
 pub put-first-unique : (to xs r q : List Float) (n : ℕ) → r ≡ sets to 0 (take n xs) → q ≡ sets to 0 (take n xs) → r ≡ q
 put-first-unique to xs r q n = only

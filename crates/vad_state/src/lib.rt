@@ -5,6 +5,7 @@ ghost use mathlib.Core.Path.{_≡_};
 ghost use mathlib.Core.Bool.{not, _&&_, _||_};
 ghost use Prim.Native.Nat.{_≤_, _^_};
 ghost use lib.ListN.{length};
+ghost use Rattle.vad_state.specs.Kept.{keptOf, wholeOf};
 ghost use Rattle.vad_state.specs.State.{handedIn, sameLengths, settingsSound, carrySound, trackSound, isClosed, heldSound, segmentSound, activeSound, soundOf};
 use vad_config::Lengths;
 use vad_segments::ActiveSegment;
@@ -32,6 +33,35 @@ pub struct VadDetector {
     pub warmup: [f32; 300],
     pub held: usize,
     pub track: Track,
+}
+
+// A state without its arrays, which are lent where they are looked at.
+pub struct Kept {
+    pub rules: Rules,
+    pub carry_len: usize,
+    pub carry_start: u64,
+    pub processed_samples: u64,
+    pub pre_emphasis_prev: f32,
+    pub warming: bool,
+    pub held: usize,
+    pub track: Track,
+}
+
+pub fn kept_of(detector: VadDetector) -> Kept
+    ensures { λ r. ⌜ r ≡ keptOf detector ⌝ }
+{
+    let rules = detector.rules;
+    let track = detector.track;
+    Kept {
+        rules,
+        carry_len: detector.carry_len,
+        carry_start: detector.carry_start,
+        processed_samples: detector.processed_samples,
+        pre_emphasis_prev: detector.pre_emphasis_prev,
+        warming: detector.warming,
+        held: detector.held,
+        track,
+    }
 }
 
 // Of 14 what does not speak of the window's length.
@@ -267,32 +297,44 @@ fn warmup_sound(
     held_sound(lengths, warmup, held, carry_start, active)
 }
 
-// The arrays of the state are lent here: a callee that took the state and lent them would copy them.
-pub fn sound(detector: VadDetector) -> bool
-    ensures { λ r. ⌜ r ≡ soundOf detector ⌝ }
+// A state whose arrays are lent, so that none is copied.
+pub fn sound_lent<'a>(kept: Kept, window: &'a [f32], carry: &'a [f32], warmup: &'a [f32]) -> bool
+    requires { ⌜ (length (now window) ≡ 2048) × (length (now carry) ≡ 2048) × (length (now warmup) ≡ 300) ⌝ }
+    ensures { λ r. ⌜ r ≡ soundOf (wholeOf kept (now (window .entry)) (now (carry .entry)) (now (warmup .entry))) ⌝ }
 {
-    let rules = detector.rules;
+    let rules = kept.rules;
     if !kept_sound(
         rules,
-        &detector.window,
-        &detector.carry,
-        detector.carry_len,
-        detector.carry_start,
-        detector.processed_samples,
-        detector.pre_emphasis_prev,
+        window,
+        carry,
+        kept.carry_len,
+        kept.carry_start,
+        kept.processed_samples,
+        kept.pre_emphasis_prev,
     ) {
         return false;
     }
-    let track = detector.track;
-    if !heard_sound(rules, detector.processed_samples, track) {
+    let track = kept.track;
+    if !heard_sound(rules, kept.processed_samples, track) {
         return false;
     }
     warmup_sound(
-        detector.warming,
+        kept.warming,
         rules,
-        &detector.warmup,
-        detector.held,
-        detector.carry_start,
+        warmup,
+        kept.held,
+        kept.carry_start,
         track,
+    )
+}
+
+pub fn sound(detector: VadDetector) -> bool
+    ensures { λ r. ⌜ r ≡ soundOf detector ⌝ }
+{
+    sound_lent(
+        kept_of(detector),
+        &detector.window,
+        &detector.carry,
+        &detector.warmup,
     )
 }

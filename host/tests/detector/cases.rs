@@ -120,6 +120,20 @@ impl Random {
                 },
                 stream_start_time: self.start(),
             };
+            // Half of the settings find speech in most sounds.
+            let config = if self.one_in(2) {
+                VadConfig {
+                    release_ratio: 1.0 + self.share() * 2.0,
+                    activation_ratio: 3.0 + self.share(),
+                    min_speech_energy: 0.0,
+                    energy_floor: self.magnitude(-40, -20),
+                    hangover_frames: self.within(0, 8) as usize,
+                    min_speech_frames: self.within(1, 3) as usize,
+                    ..config
+                }
+            } else {
+                config
+            };
             if config.validate().is_ok() {
                 return config;
             }
@@ -162,6 +176,8 @@ pub struct Sound {
     random: Random,
     background: f32,
     ratios: [f32; 2],
+    /// Samples of a frame.
+    frame: i32,
     wave: Wave,
     level: f32,
     left: u32,
@@ -176,10 +192,12 @@ impl Sound {
             _ => random.magnitude(-16, 4),
         };
         let ratios = [config.activation_ratio, config.release_ratio];
+        let frame = config.frame_length_samples().expect("accepted") as i32;
         Sound {
             random,
             background,
             ratios,
+            frame,
             wave: Wave::Zero,
             level: 0.0,
             left: 0,
@@ -192,21 +210,23 @@ impl Sound {
         self.left = match random.within(0, 4) {
             0 => random.within(1, 40),
             1 => random.within(2_000, 20_000),
-            _ => random.within(100, 4_000),
-        } as u32;
-        self.wave = match random.within(0, 9) {
+            _ => random.within(1, 12) * self.frame / 2,
+        }
+        .max(1) as u32;
+        self.wave = match random.within(0, 49) {
             0 => Wave::Zero,
             1 => Wave::MinusZero,
-            2 | 3 => Wave::Constant,
-            4 => Wave::Alternating,
-            5..=7 => Wave::Noise,
+            2..=9 => Wave::Constant,
+            10..=19 => Wave::Alternating,
+            20..=34 => Wave::Noise,
             _ => Wave::Sine(random.share()),
         };
-        let level = match random.within(0, 9) {
+        // What is far too loud or too quiet moves the floor for long, so it is rare.
+        let level = match random.within(0, 49) {
             0 => FULL,
             1 => random.magnitude(-149, 15),
-            2 => self.background * random.pick(&self.ratios),
-            3..=5 => self.background * random.pick(&self.ratios) * (0.5 + random.share()),
+            2..=9 => self.background * random.pick(&self.ratios),
+            10..=25 => self.background * random.pick(&self.ratios) * (0.5 + 4.0 * random.share()),
             _ => self.background,
         };
         self.level = level.min(FULL);

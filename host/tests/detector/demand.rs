@@ -2,9 +2,9 @@
 
 use std::collections::VecDeque;
 
-use fallowcart::{VadConfig, raw};
+use fallowcart::VadConfig;
 
-use crate::memory::Memory;
+use crate::memory::{Memory, Readings};
 
 /// What was seen since the opening or the latest reset.
 pub struct Demand {
@@ -33,7 +33,7 @@ impl Demand {
     }
 
     /// After an accepted call that took so many samples and reported these rows.
-    pub fn call(&mut self, memory: &Memory, taken: usize, rows: &[[u64; 7]]) {
+    pub fn call(&mut self, memory: &Memory, readings: &Readings, taken: usize, rows: &[[u64; 7]]) {
         self.received += taken as u64;
         for row in rows {
             let (start, end) = (row[0], row[1]);
@@ -51,19 +51,19 @@ impl Demand {
         let [frames, loud, quiet, reported] = memory.counted();
         assert_eq!((frames, reported), (loud + quiet, rows.len() as u64));
         self.frames.push_front((frames, loud));
-        self.seen(memory);
+        self.seen(memory, readings);
     }
 
     /// After any call, a refused one too.
-    pub fn seen(&mut self, memory: &Memory) {
-        let undecided = memory.read(raw::vad_undecided_from);
+    pub fn seen(&mut self, memory: &Memory, readings: &Readings) {
+        let undecided = readings.undecided;
         assert!(self.undecided <= undecided, "the position never goes back");
         self.undecided = undecided;
         assert_eq!(memory.received(), self.received);
-        assert_eq!(memory.read(raw::vad_rows_reported), self.rows);
-        assert_eq!(memory.read(raw::vad_talk_samples), self.talk);
+        assert_eq!(readings.rows, self.rows);
+        assert_eq!(readings.talk, self.talk);
 
-        let open = memory.read(raw::vad_active_segment_start_sample) != 0;
+        let open = readings.open.is_some();
         if !memory.warming() && !open {
             let trails = self.received - undecided;
             assert!(

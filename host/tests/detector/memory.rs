@@ -14,6 +14,17 @@ pub struct Memory {
     pub floats: Vec<f32>,
 }
 
+/// What the six readings answer.
+pub struct Readings {
+    pub undecided: u64,
+    pub analyzed: u64,
+    /// Where the open segment starts.
+    pub open: Option<u64>,
+    pub rows: u64,
+    pub talk: u64,
+    pub floor: u32,
+}
+
 /// Refusal and what it carries.
 pub fn unpacked(answer: u64) -> (u32, u64) {
     ((answer & 0xff) as u32, answer >> 8)
@@ -46,10 +57,21 @@ impl Memory {
         raw::vad_reset(&mut self.numbers, &mut self.floats, start)
     }
 
-    pub fn read(&self, reading: fn(&[u64], &[f32]) -> u64) -> u64 {
-        let (refusal, value) = unpacked(reading(&self.numbers, &self.floats));
-        assert_eq!(refusal, 0, "a reading");
-        value
+    /// All that can be read of a sound state.
+    pub fn readings(&self) -> Readings {
+        let read = |reading: fn(&[u64], &[f32]) -> u64| {
+            let (refusal, value) = unpacked(reading(&self.numbers, &self.floats));
+            assert_eq!(refusal, 0, "a reading");
+            value
+        };
+        Readings {
+            undecided: read(raw::vad_undecided_from),
+            analyzed: read(raw::vad_analyzed_until),
+            open: read(raw::vad_active_segment_start_sample).checked_sub(1),
+            rows: read(raw::vad_rows_reported),
+            talk: read(raw::vad_talk_samples),
+            floor: read(raw::vad_noise_floor) as u32,
+        }
     }
 
     pub fn same(&self, other: &Memory) -> bool {
