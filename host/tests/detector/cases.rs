@@ -171,6 +171,19 @@ enum Wave {
     Sine(f32),
 }
 
+impl Wave {
+    fn any(random: &mut Random) -> Wave {
+        match random.within(0, 49) {
+            0 => Wave::Zero,
+            1 => Wave::MinusZero,
+            2..=9 => Wave::Constant,
+            10..=19 => Wave::Alternating,
+            20..=34 => Wave::Noise,
+            _ => Wave::Sine(random.share()),
+        }
+    }
+}
+
 /// Sound that goes on: a background, and louder stretches whose level is near the ratios that the detector asks for, or anywhere.
 pub struct Sound {
     random: Random,
@@ -178,6 +191,7 @@ pub struct Sound {
     ratios: [f32; 2],
     /// Samples of a frame.
     frame: i32,
+    usual: Wave,
     wave: Wave,
     level: f32,
     left: u32,
@@ -193,11 +207,13 @@ impl Sound {
         };
         let ratios = [config.activation_ratio, config.release_ratio];
         let frame = config.frame_length_samples().expect("accepted") as i32;
+        let usual = Wave::any(&mut random);
         Sound {
             random,
             background,
             ratios,
             frame,
+            usual,
             wave: Wave::Zero,
             level: 0.0,
             left: 0,
@@ -207,26 +223,25 @@ impl Sound {
 
     fn turn(&mut self) {
         let random = &mut self.random;
-        self.left = match random.within(0, 4) {
-            0 => random.within(1, 40),
-            1 => random.within(2_000, 20_000),
+        self.left = match random.within(0, 49) {
+            0..=4 => random.within(1, 40),
+            5 => random.within(2_000, 20_000),
             _ => random.within(1, 12) * self.frame / 2,
         }
         .max(1) as u32;
-        self.wave = match random.within(0, 49) {
-            0 => Wave::Zero,
-            1 => Wave::MinusZero,
-            2..=9 => Wave::Constant,
-            10..=19 => Wave::Alternating,
-            20..=34 => Wave::Noise,
-            _ => Wave::Sine(random.share()),
+        // Most of a run's sound has one wave, so that its levels can be compared.
+        self.wave = if random.one_in(5) {
+            Wave::any(random)
+        } else {
+            self.usual
         };
         // What is far too loud or too quiet moves the floor for long, so it is rare.
         let level = match random.within(0, 49) {
             0 => FULL,
             1 => random.magnitude(-149, 15),
             2..=9 => self.background * random.pick(&self.ratios),
-            10..=25 => self.background * random.pick(&self.ratios) * (0.5 + 4.0 * random.share()),
+            10..=14 => self.background * random.pick(&self.ratios) * (0.5 + random.share()),
+            15..=29 => self.background * self.ratios[0] * (1.0 + 60.0 * random.share()),
             _ => self.background,
         };
         self.level = level.min(FULL);
