@@ -1,9 +1,8 @@
 -- What the detector's entry points answer through the door, and what they leave in the memory lent to them. Each is the core's answer on the state that the memory holds.
-use mathlib.Core.Bool.{Bool, true, false, _&&_, cond}
+use mathlib.Core.Bool.{_&&_, cond}
 use mathlib.Core.List.{List, [], _∷_}
 use Prim.Native.Nat.{ℕ, suc}
 use lib.Dec.{eqb}
-use lib.ListN.{length}
 use lib.Ieee.{Float, binary32, toBits}
 use Rattle.answers.specs.Answers.{packed}
 use Rattle.vad_config.specs.declared.VadConfig.{VadConfig}
@@ -13,9 +12,7 @@ use Rattle.vad_detector.specs.Opening.{openOf, resetOf}
 use Rattle.vad_detector.specs.Entries.{detectOf, detectRows, flushOf, flushRows}
 use Rattle.vad_detector.specs.Run.{Call, Detect, Flush, Reset}
 use Rattle.vad_detector.specs.Readings.{undecidedRead, analyzedRead, rowsRead, talkRead, floorRead, segmentRead}
-use Rattle.vad_detector.specs.declared.Opened.{Opened}
 use Rattle.vad_detector.specs.declared.Reading.{Reading}
-use Rattle.vad_detector.specs.declared.FloorReading.{FloorReading}
 use Rattle.vad_detector.specs.declared.SegmentReading.{SegmentReading}
 use Rattle.vad_memory.specs.DetectorState.{detectorAt, longEnough, readable, numbersWritten, floatsWritten}
 

@@ -202,18 +202,18 @@ pub fn detector_at(numbers: &[u64], floats: &[f32]) -> VadDetector
 }
 
 // The open segment as it is written, zeros where none is open. A struct, since an array's numbers are each copied before they are used.
-struct Kept {
+struct Segment {
     open: u64,
     segment: ActiveSegmentState,
 }
 
-fn kept_of(track: Track) -> Kept
+fn segment_of(track: Track) -> Segment
     ensures { λ r. ⌜ r .«open» ∷ r .segment .«start_sample» ∷ r .segment .«last_end_sample» ∷ r .segment .«score_total» ∷ r .segment .«frame_count» ∷ r .segment .«silence_run» ∷ [] ≡ activeNumbers (track .«active_segment») ⌝ }
     ensures { λ r. ⌜ r .segment .«energy_sum» ≡ activeEnergy (track .«active_segment») ⌝ }
 {
     let active = track.active_segment;
     match active {
-        ActiveSegment::Closed => Kept {
+        ActiveSegment::Closed => Segment {
             open: 0,
             segment: ActiveSegmentState {
                 start_sample: 0,
@@ -224,14 +224,14 @@ fn kept_of(track: Track) -> Kept
                 silence_run: 0,
             },
         },
-        ActiveSegment::Open(segment) => Kept { open: 1, segment },
+        ActiveSegment::Open(segment) => Segment { open: 1, segment },
     }
 }
 
 fn numbers_of(detector: VadDetector, tally: Tally) -> [u64; 29]
     ensures { λ r. ⌜ r ≡ numbersOf detector tally ⌝ }
 {
-    let kept = kept_of(detector.track);
+    let kept = segment_of(detector.track);
     [
         detector.rules.config.sample_rate as u64,
         detector.rules.config.frame_duration,
@@ -268,7 +268,7 @@ fn numbers_of(detector: VadDetector, tally: Tally) -> [u64; 29]
 fn singles_of(detector: VadDetector) -> [f32; 11]
     ensures { λ r. ⌜ r ≡ singlesOf detector ⌝ }
 {
-    let kept = kept_of(detector.track);
+    let kept = segment_of(detector.track);
     [
         detector.rules.config.frame_overlap,
         detector.rules.config.pre_emphasis,

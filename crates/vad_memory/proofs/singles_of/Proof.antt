@@ -3,15 +3,15 @@ use borrow.Author.Needs.{needs}
 use Rattle.vad_memory.proofs.singles_of.Statement.{statement}
 use Rattle.vad_memory.proofs.singles_of.Tie as tie
 
-kept-of-requires : tie.Need-kept-of-requires
-kept-of-requires c κs = search needs
+segment-of-requires : tie.Need-segment-of-requires
+segment-of-requires c κs = search needs
 
 returns : tie.Need-returns
-returns c = singles-are (c .before .args .detector) (c .kept-of .result .segment .«energy_sum») (c .kept-of .ensures .1)
+returns c = singles-are (c .before .args .detector) (c .segment-of .result .segment .«energy_sum») (c .segment-of .ensures .1)
 
 pub singles-of-spec : {M : Type 1} → statement M
 singles-of-spec =
     tie.close
     (tie.spec
-    kept-of-requires
+    segment-of-requires
     returns)

@@ -1,8 +1,8 @@
 use mathlib.Core.Path.{sym, ap}
 use Rattle.vad_memory.specs.DetectorState.{activeNumbers, activeEnergy}
 use borrow.Author.Needs.{needs}
-use Rattle.vad_memory.proofs.kept_of.Statement.{statement}
-use Rattle.vad_memory.proofs.kept_of.Tie as tie
+use Rattle.vad_memory.proofs.segment_of.Statement.{statement}
+use Rattle.vad_memory.proofs.segment_of.Tie as tie
 
 enum-told : tie.Need-enum-told
 enum-told c = search needs
@@ -18,8 +18,8 @@ returns-2 : tie.Need-returns-2
 unfolding activeNumbers activeEnergy
 returns-2 c = let opened = c .before .active .given .1 in (sym (ap activeNumbers opened), sym (ap activeEnergy opened))
 
-pub kept-of-spec : {M : Type 1} → statement M
-kept-of-spec =
+pub segment-of-spec : {M : Type 1} → statement M
+segment-of-spec =
     tie.close
     (tie.spec
     enum-told
