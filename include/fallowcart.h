@@ -1,12 +1,31 @@
 /*
- * Fallowcart: a voice detector and a high-pass filter for long recordings, proved in Rattle. The library is target/staticlib/libhub.a, for x86-64.
+ * Fallowcart: a voice detector and a high-pass filter for long recordings, proved in Rattle. The library is target/staticlib/libhub.a, for x86-64; of
+ * other libraries it needs memcpy and memset alone.
  *
  * - Every function answers every input: any number, any length, any content of the memory that it is lent. It allocates nothing, keeps nothing
- *   between calls, and may be called from any thread. Memory lent to one call must not overlap, and a pointer must be good for its length; a length
- *   of 0 asks for a pointer that is not null all the same.
+ *   between calls, and may be called from any thread. A pointer must be good for its length, aligned as C aligns its type and, with a length of 0 too,
+ *   not null; memory lent to one call must not overlap; a bool is 0 or 1.
  * - A state lives in memory of the caller's, as numbers that are documented below. It may be stored, moved and gone on with after a restart, on a
- *   machine of the same byte order. A state that is malformed is refused, and a refused call writes nothing; the one exception is refusal 26.
- * - Samples are f32. Positions are counted in samples from the stream's start, times are in nanoseconds.
+ *   machine of the same byte order. A state that is malformed is refused, and a refused call writes nothing. The exceptions: a refused opening leaves
+ *   zeros, and refusal 26 leaves results in the output.
+ * - Samples are f32, and full scale is 1: the usual settings below assume it. Positions are counted in samples from the stream's start, times are in
+ *   nanoseconds. An energy is a root mean square, of a frame's samples after pre-emphasis and windowing.
+ * - A call's arrays stand on the stack: give the thread that calls 256 KiB of it.
+ *
+ * A hub hears a block so:
+ *
+ *     static struct fallowcart_vad vad;
+ *     uint64_t rows[8 * FALLOWCART_ROW_FIELDS];
+ *     uint64_t answer = fallowcart_vad_detect(vad.numbers, FALLOWCART_VAD_NUMBERS, vad.floats, FALLOWCART_VAD_FLOATS, samples, length,
+ *                                             rows, 8 * FALLOWCART_ROW_FIELDS);
+ *     if (fallowcart_refusal(answer) != 0)
+ *         complain(fallowcart_refusal(answer), fallowcart_carried(answer));
+ *     else
+ *         for (uint64_t i = 0; i < vad.numbers[FALLOWCART_ROWS]; i++) {
+ *             struct fallowcart_row row;
+ *             memcpy(&row, rows + i * FALLOWCART_ROW_FIELDS, sizeof row);
+ *             cut(row.start_sample, row.end_sample);
+ *         }
  */
 #ifndef FALLOWCART_H
 #define FALLOWCART_H
@@ -50,7 +69,7 @@ static inline uint64_t fallowcart_carried(uint64_t answer) { return answer >> 8;
  *   21  the cutoff is not finite, or below 20 Hz
  *   22  the cutoff is not below half the rate
  *   23  dc_bias_alpha is not in (0, 1)
- *   24  a coefficient of a stage in use is NaN or outside its range, or there are fewer than ten
+ *   24  a coefficient of a stage in use is NaN or outside (b0, b2 in [0, 1], b1 in [-2, 0], a1 in [-2, 2], a2 in [-1, 1]), or there are fewer than ten
  *   25  the output is shorter than the block
  *   26  a result of the filter is not finite; carries the sample's place. The output then holds the results before it and zeros from there to the
  *       block's length; the filter's state is as it was
@@ -60,7 +79,7 @@ static inline uint64_t fallowcart_carried(uint64_t answer) { return answer >> 8;
 /* ---- the detector */
 
 /*
- * A detector's state: 17,864 bytes with the padding at its end. Zeros are no state: open one.
+ * A detector's state: 17,860 bytes, numbers and floats, and 4 of padding at the end of the struct. Zeros are no state: open one.
  *
  * numbers
  *    0  rate                     10  padding in samples           20  the open segment's start
@@ -73,12 +92,13 @@ static inline uint64_t fallowcart_carried(uint64_t answer) { return answer >> 8;
  *    7  frame's length           17  rows reported                27  .. quiet frames
  *    8  hop's length             18  talk samples                 28  .. rows that it reported
  *    9  warm-up frames           19  a segment is open
- * 2, 14 and 19 are 0 or 1; 20 to 24 are 0 where no segment is open.
+ * 1, 4 and 6 are in nanoseconds. 2, 14 and 19 are 0 or 1. The library writes 0 to 20 to 24 and to the float 4406 where no segment is open, and to 25 to 28
+ * at an opening and a reset; it does not look at them then.
  *
  * floats
- *       0 to 2047  the window, a frame long, then zeros
- *    2048 to 4095  the carry: pre-emphasized values that no complete frame has used up, then zeros
- *    4096 to 4395  the energies of the frames that the warm-up holds, then zeros
+ *       0 to 2047  the window, a frame long; past the used part of an array the library writes zeros and looks at nothing
+ *    2048 to 4095  the carry: pre-emphasized values that no complete frame has used up
+ *    4096 to 4395  the energies of the frames that the warm-up holds
  *    4396  frame_overlap         4400  min_speech_energy          4404  the last sample
  *    4397  pre_emphasis          4401  noise_smoothing            4405  the noise floor
  *    4398  activation_ratio      4402  energy_floor               4406  the open segment's energy total, or 0
@@ -108,8 +128,25 @@ struct fallowcart_row {
 #define FALLOWCART_ROW_FIELDS 7
 
 /*
+ * The settings, and what is usual:
+ *   sample_rate         16000       samples a second
+ *   frame_duration      20000000    of a frame
+ *   frame_overlap       0.5         of neighbouring frames
+ *   has_pre_emphasis    true
+ *   pre_emphasis        0.97        the a of y[n] = x[n] - a * x[n-1]
+ *   activation_ratio    2.5         times the noise floor that begin a segment
+ *   release_ratio       1.3         times the noise floor that go on with it
+ *   min_speech_energy   0.0005      frames of less are never speech
+ *   noise_smoothing     0.85        of the noise floor in silence
+ *   energy_floor        0.0001      the noise floor's least value
+ *   hangover_frames     20          quiet frames that a segment lives through
+ *   speech_padding      50000000    added at both ends of a segment
+ *   min_speech_frames   3           least loud frames of a segment that is reported
+ *   stream_start_time   0           when the first sample is
+ *
  * Opens a detector: 19 where the memory is too short, which is then left as it is; else 0, or the first of refusals 1 to 14, which leaves an all-zero
- * state. The window is a Hann window a frame long, 0.5 - 0.5 * cos(2 * pi * n / (length - 1)), and the rise weight exp(-hop / (5 * rate)).
+ * state. The window is a Hann window a frame long, 0.5 - 0.5 * cos(2 * pi * n / (length - 1)), and the rise weight exp(-hop / (5 * rate)), both worked out
+ * by the caller; fallowcart_frame_length and fallowcart_hop_length give the lengths.
  */
 uint64_t fallowcart_vad_open(
     uint32_t sample_rate,
@@ -155,9 +192,9 @@ uint64_t fallowcart_vad_reset(
 
 /* Readings: refusal 19, or the value carried. */
 
-/* The first sample whose judgement can still change. Rows of later calls do not start before it. */
+/* The first sample whose judgement can still change. From an opening to the next reset it never goes back, and rows of later calls do not start before it. */
 uint64_t fallowcart_vad_undecided_from(const uint64_t *numbers, size_t numbers_len, const float *floats, size_t floats_len);
-/* The first sample that no complete frame has covered yet. */
+/* Where the next frame starts: the sound before it has been used up. */
 uint64_t fallowcart_vad_analyzed_until(const uint64_t *numbers, size_t numbers_len, const float *floats, size_t floats_len);
 /* 0 where no segment is open, else one more than the open segment's start. */
 uint64_t fallowcart_vad_active_segment_start_sample(const uint64_t *numbers, size_t numbers_len, const float *floats, size_t floats_len);
@@ -207,8 +244,14 @@ uint64_t fallowcart_time_of_sample(uint64_t stream_start_time, uint32_t sample_r
 #define FALLOWCART_FILTER_WORDS 25
 
 /*
- * Opens a filter: 27 where the memory is too short, which is then left as it is; else 0, or the first of refusals 20 to 24, which leaves an all-zero
- * state. The coefficients are ten: b0, b1, b2, a1, a2 of the first stage, then of the second, which second order never reads.
+ * Opens a filter: 27 where the memory is too short, which is then left as it is; else 24 where there are fewer than ten coefficients, 0, or the first of
+ * refusals 20 to 24. A refusal leaves an all-zero state.
+ *
+ * The coefficients are ten: b0, b1, b2, a1, a2 of the first stage, then of the second, which second order never reads. For a Butterworth high-pass, with
+ * w = 2 * pi * cutoff / rate and s = sin(w) / (2 * q):
+ *   b0 = b2 = (1 + cos(w)) / 2 / (1 + s), b1 = -(1 + cos(w)) / (1 + s), a1 = -2 * cos(w) / (1 + s), a2 = (1 - s) / (1 + s)
+ * where q is 0.70710678 for second order, and 0.5411961 and 1.306563 for the two stages of fourth. Usual are a cutoff of 80, a dc_bias_alpha of 0.95, both
+ * switches on and fourth order.
  */
 uint64_t fallowcart_filter_open(
     float highpass_cutoff_hz,
@@ -220,7 +263,7 @@ uint64_t fallowcart_filter_open(
     const float *coefficients, size_t coefficients_len,
     uint32_t *state, size_t state_len);
 
-/* Filters a block into the output: refusals 27, 15, 25, 16, 26. The bias follows blocks that are silent, and those without a context. */
+/* Filters a block into the output, which is other memory than the samples: refusals 27, 15, 25, 16, 26. The bias follows blocks that are silent, and those without a context. */
 uint64_t fallowcart_filter_process(
     uint32_t *state, size_t state_len,
     const float *samples, size_t samples_len,

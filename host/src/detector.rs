@@ -23,7 +23,7 @@ pub struct SpeechChunk {
     pub score_total: u64,
     /// Its loud frames; those of the hangover are not counted.
     pub frame_count: u64,
-    /// Mean energy of its loud frames, after pre-emphasis and windowing.
+    /// Mean energy of its loud frames: the root mean square of a frame after pre-emphasis and windowing.
     pub avg_energy: f32,
 }
 
@@ -51,7 +51,7 @@ impl SpeechChunk {
 
     /// How far the loud frames rise above the noise floor, from 0 (at the floor) to 1 (20 dB or more above it).
     pub fn confidence(&self) -> f64 {
-        self.score_total as f64 / (1024 * self.frame_count) as f64
+        self.score_total as f64 / (1024.0 * self.frame_count.max(1) as f64)
     }
 }
 
@@ -85,7 +85,7 @@ impl DetectorState {
     /// How many numbers and floats a state has.
     pub const NUMBERS: usize = 29;
     pub const FLOATS: usize = 4407;
-    /// How many bytes they are.
+    /// How many bytes they are; a C struct of them has four more at its end.
     pub const BYTES: usize = 8 * Self::NUMBERS + 4 * Self::FLOATS;
 
     /// No state: refused by 19.
@@ -122,8 +122,8 @@ impl DetectorState {
 
 /// A voice detector and what it has heard so far, so that a stream can be handed over in blocks.
 ///
-/// Segments come in order, never overlap, lie in the sound received, and never start before a position that [`Detector::undecided_from`] gave earlier:
-/// what lies before it may be handed on.
+/// From [`Detector::new`] to the next [`Detector::reset`] segments come in order, never overlap, lie in the sound received, and never start before a position
+/// that [`Detector::undecided_from`] gave earlier: what lies before it may be handed on.
 ///
 /// ```
 /// use fallowcart::{Detector, VadConfig};
@@ -139,10 +139,13 @@ impl DetectorState {
 /// segments.extend(detector.flush()?.segments);
 /// assert_eq!(segments.len(), 1);
 /// assert!(segments[0].start_sample < 5 * 1024 && 8 * 1024 <= segments[0].end_sample);
-/// assert_eq!(detector.talk_samples(), segments[0].end_sample - segments[0].start_sample);
+/// assert_eq!(detector.talk_samples()?, segments[0].end_sample - segments[0].start_sample);
 /// # Ok(())
 /// # }
 /// ```
+///
+/// A detector that was opened here is never refused by 19. One [from a stored state](Detector::from_state) may be, at any call, where the state was damaged
+/// in a way that does not show at once.
 #[derive(Debug, Clone, PartialEq)]
 pub struct Detector {
     state: Box<DetectorState>,
@@ -182,12 +185,12 @@ impl Detector {
         Ok(Detector { state })
     }
 
-    /// Hears the next block of the stream. Blocks may have any size up to 1,024: samples that do not fill a frame yet wait for the next call, and a
+    /// Hears the next block of the stream, whose full scale is 1. Blocks may have any size up to 1,024: samples that do not fill a frame yet wait for the next call, and a
     /// segment that is open at the end of a block is reported once it closes.
     ///
     /// # Errors
     ///
-    /// Refusals 15, 16 and 17, which leave the detector as it was.
+    /// Refusals 15, 16 and 17 (and 19 of a damaged state), which leave the detector as it was.
     ///
     /// ```
     /// let mut detector = fallowcart::Detector::new(fallowcart::VadConfig::default()).unwrap();
@@ -201,10 +204,12 @@ impl Detector {
     }
 
     /// Judges what still waits for a full frame and closes the open segment, if there is one. The stream may go on after it, on a new grid of frames.
-    pub fn flush(&mut self) -> Detected {
-        let flushed =
-            self.call(|state, rows| raw::vad_flush(&mut state.numbers, &mut state.floats, rows));
-        flushed.expect("a sound state and room for its rows")
+    ///
+    /// # Errors
+    ///
+    /// Refusal 19 of a damaged state.
+    pub fn flush(&mut self) -> Result<Detected, Refusal> {
+        self.call(|state, rows| raw::vad_flush(&mut state.numbers, &mut state.floats, rows))
     }
 
     /// A call with room for a few rows; if they do not fit, with the room that it asks for.
@@ -240,47 +245,51 @@ impl Detector {
     ///
     /// # Errors
     ///
-    /// Refusal 13 where the start is 2^63 ns or later.
+    /// Refusal 13 where the start is 2^63 ns or later (and 19 of a damaged state).
     pub fn reset(&mut self, stream_start_time: u64) -> Result<(), Refusal> {
         let state = &mut *self.state;
         let answer = raw::vad_reset(&mut state.numbers, &mut state.floats, stream_start_time);
         Refusal::check(answer).map(|_| ())
     }
 
-    /// The first sample whose judgement can still change. It never goes back, and no later segment starts before it.
-    pub fn undecided_from(&self) -> u64 {
+    /// The first sample whose judgement can still change. Until a reset it never goes back, and no later segment starts before it.
+    ///
+    /// # Errors
+    ///
+    /// Of all readings: refusal 19 of a damaged state.
+    pub fn undecided_from(&self) -> Result<u64, Refusal> {
         self.read(raw::vad_undecided_from)
     }
 
-    /// The first sample that no complete frame has covered yet.
-    pub fn analyzed_until(&self) -> u64 {
+    /// Where the next frame starts: the sound before it has been used up.
+    pub fn analyzed_until(&self) -> Result<u64, Refusal> {
         self.read(raw::vad_analyzed_until)
     }
 
     /// Where the open segment starts, if one is open.
-    pub fn active_segment_start_sample(&self) -> Option<u64> {
-        self.read(raw::vad_active_segment_start_sample)
-            .checked_sub(1)
+    pub fn active_segment_start_sample(&self) -> Result<Option<u64>, Refusal> {
+        let start = self.read(raw::vad_active_segment_start_sample)?;
+        Ok(start.checked_sub(1))
     }
 
     /// Segments since the opening or the latest reset.
-    pub fn rows_reported(&self) -> u64 {
+    pub fn rows_reported(&self) -> Result<u64, Refusal> {
         self.read(raw::vad_rows_reported)
     }
 
     /// Their samples.
-    pub fn talk_samples(&self) -> u64 {
+    pub fn talk_samples(&self) -> Result<u64, Refusal> {
         self.read(raw::vad_talk_samples)
     }
 
     /// The estimate of the background's energy.
-    pub fn noise_floor(&self) -> f32 {
-        f32::from_bits(self.read(raw::vad_noise_floor) as u32)
+    pub fn noise_floor(&self) -> Result<f32, Refusal> {
+        let bits = self.read(raw::vad_noise_floor)?;
+        Ok(f32::from_bits(bits as u32))
     }
 
-    /// A `Detector` is only made with a sound state, and the library keeps it so: it is proved to.
-    fn read(&self, reading: fn(&[u64], &[f32]) -> u64) -> u64 {
-        Refusal::check(reading(&self.state.numbers, &self.state.floats)).expect("a sound state")
+    fn read(&self, reading: fn(&[u64], &[f32]) -> u64) -> Result<u64, Refusal> {
+        Refusal::check(reading(&self.state.numbers, &self.state.floats))
     }
 
     /// The state, to be stored.
@@ -304,7 +313,7 @@ impl Detector {
     ///
     /// # Errors
     ///
-    /// Refusal 19 where no detector has it.
+    /// Refusal 19 where the state is malformed. Not every state that is damaged is.
     pub fn from_state(state: &DetectorState) -> Result<Detector, Refusal> {
         Refusal::check(raw::vad_undecided_from(&state.numbers, &state.floats))?;
         Ok(Detector {

@@ -211,7 +211,7 @@ impl Filter {
     }
 }
 
-/// A `Filter` is only made with a sound state, and the library keeps it so: it is proved to.
+/// A `Filter` is only made with a sound state, and every call keeps it sound: that is proved (`next-sound` in dc_highpass' Runs).
 fn sound(answer: Result<u64, Refusal>) -> u64 {
     answer.expect("a sound state")
 }

@@ -9,6 +9,7 @@ mod cli {
     pub mod time;
 }
 
+use std::io::Write;
 use std::process::ExitCode;
 
 use cli::options::{self, Command};
@@ -40,6 +41,7 @@ fn main() -> ExitCode {
 }
 
 fn refuse(message: &str) -> ExitCode {
-    eprintln!("fallowcart: {message}");
+    // A message that cannot be written changes no status.
+    let _ = writeln!(std::io::stderr(), "fallowcart: {message}");
     ExitCode::from(BAD_INPUT)
 }

@@ -113,7 +113,7 @@ macro_rules! readings {
 readings! {
     /// The first sample whose judgement can still change.
     vad_undecided_from => fallowcart_vad_undecided_from,
-    /// The first sample that no complete frame has covered yet.
+    /// Where the next frame starts.
     vad_analyzed_until => fallowcart_vad_analyzed_until,
     /// Carries 0 where no segment is open, else one more than its start.
     vad_active_segment_start_sample => fallowcart_vad_active_segment_start_sample,

@@ -4,7 +4,8 @@ use std::fmt;
 
 /// A refusal of the proved library, by its number.
 ///
-/// A refused call changes nothing; the one exception is 26, and [`Filter::process`](crate::Filter::process) says what it leaves.
+/// A refused call changes nothing; the one exception of a detector or filter that is open is 26, and [`Filter::process`](crate::Filter::process) says what
+/// it leaves.
 ///
 /// ```
 /// use fallowcart::{Filter, PreprocessingConfig};

@@ -31,7 +31,7 @@ pub struct VadConfig {
     pub activation_ratio: f32,
     /// How many times louder than the noise floor a frame must be to count as speech inside a segment, at least 1.
     pub release_ratio: f32,
-    /// Frames of less energy are never speech.
+    /// Frames of less energy, which is a root mean square, are never speech.
     pub min_speech_energy: f32,
     /// Smoothing of the noise floor during silence, in [0, 1).
     pub noise_smoothing: f32,

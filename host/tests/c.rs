@@ -26,7 +26,7 @@ fn a_c_program_uses_the_door() {
         .arg(root.join("include"))
         .arg(root.join("host/tests/c/door.c"))
         .arg(root.join("target/staticlib/libhub.a"))
-        .arg("-lm")
+        .arg("-pthread")
         .arg("-o")
         .arg(&program)
         .output()
@@ -41,5 +41,5 @@ fn a_c_program_uses_the_door() {
     let ran = ran.expect("the program runs");
     let said = String::from_utf8_lossy(&ran.stderr);
     assert!(ran.status.success(), "{said}");
-    assert_eq!(String::from_utf8_lossy(&ran.stdout), "100 facts held\n");
+    assert_eq!(String::from_utf8_lossy(&ran.stdout), "104 facts held\n");
 }

@@ -1,6 +1,6 @@
 //! The command line as a person runs it: what it prints, what it refuses and with which words.
 
-use std::io::{BufRead, BufReader, Read, Write};
+use std::io::{BufRead, BufReader, Write};
 use std::path::{Path, PathBuf};
 use std::process::{Command, Output, Stdio};
 
@@ -160,6 +160,12 @@ fn standard_input_and_floats_give_the_same_table() {
     );
 }
 
+/// What is read in time; a row that is kept back fails here and does not hang.
+fn in_time(lines: &std::sync::mpsc::Receiver<String>) -> String {
+    let line = lines.recv_timeout(std::time::Duration::from_secs(60));
+    line.expect("a line in time")
+}
+
 /// A row is there before the sound that follows it.
 #[test]
 fn a_row_is_printed_as_it_closes() {
@@ -171,22 +177,25 @@ fn a_row_is_printed_as_it_closes() {
         .spawn()
         .expect("the program runs");
     let mut stdin = child.stdin.take().expect("piped");
-    let mut lines = BufReader::new(child.stdout.take().expect("piped"));
+    let stdout = BufReader::new(child.stdout.take().expect("piped"));
+    let (sender, lines) = std::sync::mpsc::channel();
+    std::thread::spawn(move || {
+        for line in stdout.lines() {
+            sender.send(line.expect("text")).expect("awaited");
+        }
+    });
     let (first, rest) = bytes.split_at(bytes.len() / 2 / 2048 * 2048);
     stdin.write_all(first).expect("read");
     let table = shown("breakfast.tsv");
-    let halfway = table.lines().take(2);
-    for expected in halfway {
-        let mut line = String::new();
-        lines.read_line(&mut line).expect("a line");
-        assert_eq!(line.trim_end(), expected);
+    let mut expected = table.lines();
+    for expected in expected.by_ref().take(2) {
+        assert_eq!(in_time(&lines), expected);
     }
     stdin.write_all(rest).expect("read");
     drop(stdin);
-    let mut others = String::new();
-    lines.read_to_string(&mut others).expect("lines");
-    let expected: Vec<&str> = table.lines().skip(2).collect();
-    assert_eq!(others.lines().collect::<Vec<_>>(), expected);
+    for expected in expected {
+        assert_eq!(in_time(&lines), expected);
+    }
     assert!(child.wait().expect("it ends").success());
 }
 
@@ -197,7 +206,6 @@ fn every_setting_reaches_the_detector_and_the_filter() {
     let usual = printed(&segments(&[example, "--tsv"]));
     for words in [
         &["--rate", "8000"][..],
-        &["--format", "f32"],
         &["--frame-duration", "30ms"],
         &["--frame-overlap", "0.25"],
         &["--pre-emphasis", "off"],
@@ -213,16 +221,11 @@ fn every_setting_reaches_the_detector_and_the_filter() {
         &["--filter"],
     ] {
         let other = segments(&[&[example, "--tsv"], words].concat());
-        if words[1..] == ["f32"] {
-            // Two 16-bit samples in a row are, sooner or later, too large a float.
-            assert_eq!(other.status.code(), Some(2), "{words:?}");
-        } else {
-            assert_ne!(printed(&other), usual, "{words:?}");
-        }
+        assert_ne!(printed(&other), usual, "{words:?}");
     }
     // Where a segment's padding reaches past the sound that a small block has brought, its row ends there.
     let quick = [example, "--tsv", "--hangover-frames", "0"];
-    let small = [&quick[..], &["--block", "7"]].concat();
+    let small = [&quick[..], &["--block", "160"]].concat();
     assert_ne!(printed(&segments(&small)), printed(&segments(&quick)));
     let filtered = printed(&segments(&[example, "--tsv", "--filter"]));
     for words in [
@@ -287,6 +290,10 @@ fn what_was_typed_wrong_is_said() {
             &["a", "--highpass-order", "2"],
             "--highpass-order says nothing without --filter",
         ),
+        (
+            &["a", "--filter", "--no-highpass", "--no-dc-removal"],
+            "--no-highpass and --no-dc-removal leave nothing to filter",
+        ),
     ] {
         refused(&segments(words), &more(message));
     }
@@ -298,67 +305,67 @@ fn settings_out_of_range_are_said() {
     for (words, message) in [
         (
             &["--rate", "4000"][..],
-            "the sample rate is not from 8,000 to 48,000 Hz (refusal 1)",
+            "--rate: the sample rate is not from 8,000 to 48,000 Hz (refusal 1)",
         ),
         (
             &["--frame-duration", "0s"],
-            "the frame duration is not from 1 ns to 1 s (refusal 2)",
+            "--frame-duration: the frame duration is not from 1 ns to 1 s (refusal 2)",
         ),
         (
             &["--frame-overlap", "1"],
-            "the frame overlap is not in [0, 1) (refusal 3)",
+            "--frame-overlap: the frame overlap is not in [0, 1) (refusal 3)",
         ),
         (
             &["--pre-emphasis", "nan"],
-            "the pre-emphasis is not in [0, 1) (refusal 4)",
+            "--pre-emphasis: the pre-emphasis is not in [0, 1) (refusal 4)",
         ),
         (
             &["--release-ratio", "0.9"],
-            "the release ratio is NaN, or is below 1 (refusal 5)",
+            "--release-ratio: the release ratio is NaN, or is below 1 (refusal 5)",
         ),
         (
             &["--activation-ratio", "inf"],
-            "the activation ratio is not finite, or is below the release ratio (refusal 6)",
+            "--activation-ratio, --release-ratio: the activation ratio is not finite, or is below the release ratio (refusal 6)",
         ),
         (
             &["--min-speech-energy=-1"],
-            "the least energy of speech is not finite, or is negative (refusal 7)",
+            "--min-speech-energy: the least energy of speech is not finite, or is negative (refusal 7)",
         ),
         (
             &["--noise-smoothing", "1"],
-            "the smoothing of the noise floor is not in [0, 1) (refusal 8)",
+            "--noise-smoothing: the smoothing of the noise floor is not in [0, 1) (refusal 8)",
         ),
         (
             &["--energy-floor", "0"],
-            "the energy floor is not finite, or is not above 0 (refusal 9)",
+            "--energy-floor: the energy floor is not finite, or is not above 0 (refusal 9)",
         ),
         (
             &["--min-speech-frames", "0"],
-            "the least number of speech frames is 0 (refusal 10)",
+            "--min-speech-frames: the least number of speech frames is 0 (refusal 10)",
         ),
         (
             &["--frame-duration", "1s"],
-            "a frame has more than 2,048 samples (refusal 11)",
+            "--rate, --frame-duration: a frame has more than 2,048 samples (refusal 11)",
         ),
         (
             &["--frame-overlap", "0.99"],
-            "the warm-up has more than 300 frames (refusal 12)",
+            "--rate, --frame-duration, --frame-overlap: the warm-up has more than 300 frames (refusal 12)",
         ),
         (
             &["--speech-padding", "2s"],
-            "the padding is above 1 s, the hangover or the least number of speech frames above 10,000, or the stream starts at 2^63 ns or later (refusal 13)",
+            "--speech-padding, --hangover-frames, --min-speech-frames, --stream-start-time: the padding is above 1 s, the hangover or the least number of speech frames above 10,000, or the stream starts at 2^63 ns or later (refusal 13)",
         ),
         (
             &["--filter", "--highpass-cutoff-hz", "10"],
-            "the high-pass cutoff is not finite, or is below 20 Hz (refusal 21)",
+            "--highpass-cutoff-hz: the high-pass cutoff is not finite, or is below 20 Hz (refusal 21)",
         ),
         (
-            &["--filter", "--highpass-cutoff-hz", "8000"],
-            "the high-pass cutoff is not below half the sample rate (refusal 22)",
+            &["--filter", "--rate", "8000", "--highpass-cutoff-hz", "5000"],
+            "--highpass-cutoff-hz, --rate: the high-pass cutoff is not below half the sample rate (refusal 22)",
         ),
         (
             &["--filter", "--dc-bias-alpha", "1"],
-            "the smoothing of the DC bias is not in (0, 1) (refusal 23)",
+            "--dc-bias-alpha: the smoothing of the DC bias is not in (0, 1) (refusal 23)",
         ),
     ] {
         refused(&segments(&[&["no such file"], words].concat()), message);
@@ -410,14 +417,77 @@ fn a_stream_that_spoils_leaves_whole_rows() {
             && shown("breakfast.tsv").starts_with(&rows)
     );
 
+    // A byte too many: the samples before it were heard, and the segment that was open is closed.
     let bytes = std::fs::read(example()).expect("the example");
-    let output = from_input(&["--tsv"], &bytes[..bytes.len() - 1]);
-    let message = format!(
-        "fallowcart: standard input has {} bytes, which is no whole number of s16 samples of 2 bytes\n",
-        bytes.len() - 1
-    );
+    let output = from_input(&["--tsv"], &bytes[..140_001]);
+    let message = "fallowcart: standard input has 140001 bytes, which is no whole number of s16 samples of 2 bytes\n";
     assert_eq!(text(&output.stderr), message);
     assert_eq!(output.status.code(), Some(2));
+    let whole = from_input(&["--tsv"], &bytes[..140_000]);
+    assert_eq!(text(&output.stdout), printed(&whole));
+    assert_eq!(printed(&whole).lines().count(), 4);
+
+    // Nothing was heard, and nothing is printed.
+    refused(
+        &from_input(&[], &[0]),
+        "standard input has 1 bytes, which is no whole number of s16 samples of 2 bytes",
+    );
+}
+
+/// The likeliest mistake: a recording of another kind.
+#[test]
+fn a_recording_of_another_kind_is_said() {
+    let mut wav = b"RIFF\x24\x08\0\0WAVEfmt ".to_vec();
+    wav.resize(4_096, 0);
+    let message = "is a WAV file, not raw samples: 'fallowcart --help' says how to make them";
+    let path = file("talk.wav", &wav);
+    refused(&segments(&[&path]), &format!("'{path}' {message}"));
+    refused(&from_input(&[], &wav), &format!("standard input {message}"));
+}
+
+#[test]
+fn a_table_that_cannot_be_written_is_said() {
+    let full = || {
+        std::fs::OpenOptions::new()
+            .write(true)
+            .open("/dev/full")
+            .expect("it is there")
+    };
+    let example = example();
+    for words in [
+        &["segments", example.to_str().expect("a path")][..],
+        &["--help"],
+    ] {
+        let output = fallowcart()
+            .args(words)
+            .stdout(full())
+            .stderr(Stdio::piped())
+            .output();
+        let output = output.expect("the program runs");
+        let message = "fallowcart: standard output cannot be written: No space left on device (os error 28)\n";
+        assert_eq!(text(&output.stderr), message);
+        assert_eq!(output.status.code(), Some(2));
+    }
+    // Nor does a message that cannot be written change the status.
+    let output = fallowcart()
+        .arg("cut")
+        .stderr(full())
+        .output()
+        .expect("the program runs");
+    assert_eq!(output.status.code(), Some(2));
+}
+
+/// A name that looks like an option.
+#[test]
+fn after_two_dashes_a_word_is_a_file() {
+    let folder = PathBuf::from(env!("CARGO_TARGET_TMPDIR"));
+    std::fs::copy(example(), folder.join("-dash")).expect("a copy");
+    let output = fallowcart()
+        .args(["segments", "--tsv", "--", "-dash"])
+        .current_dir(&folder)
+        .output()
+        .expect("the program runs");
+    assert_eq!(printed(&output), shown("breakfast.tsv"));
 }
 
 #[test]
@@ -462,7 +532,7 @@ fn the_help_names_every_option_and_its_default() {
         .expect("the program runs");
     let help = printed(&help);
     assert_eq!(help, printed(&segments(&["--help"])));
-    assert!(help.lines().all(|line| line.chars().count() <= 100));
+    assert!(help.lines().all(|line| line.chars().count() <= 80));
     let vad = fallowcart::VadConfig::default();
     let filter = fallowcart::PreprocessingConfig::default();
     for (option, default) in [
@@ -491,6 +561,8 @@ fn the_help_names_every_option_and_its_default() {
         ),
         ("--highpass-order", "4".into()),
         ("--dc-bias-alpha", filter.dc_bias_alpha.to_string()),
+        ("--format", "s16".into()),
+        ("--block", "1024".into()),
     ] {
         let at = help
             .find(&format!("  {option} "))

@@ -191,10 +191,10 @@ impl Sides {
         };
         self.rows.clear();
         self.rows.extend((0..room).map(old));
-        let before = (room < 60).then(|| self.port.clone());
-        let (mut refusal, needed) = unpacked(of_port(&mut self.port, &mut self.rows));
-        if refusal == 18 {
-            let before = before.unwrap_or_else(|| self.port.clone());
+        let before = self.port.clone();
+        let (mut refusal, carried) = unpacked(of_port(&mut self.port, &mut self.rows));
+        let needed = (refusal == 18).then_some(carried);
+        if let Some(needed) = needed {
             assert!(
                 self.port.same(&before)
                     && self.rows.iter().enumerate().all(|(n, row)| *row == old(n))
@@ -215,14 +215,17 @@ impl Sides {
             Some(block) => self.original.detect(block),
             None => self.original.flush(),
         };
+        if let Some(needed) = needed {
+            assert_eq!(self.port.counted()[3], needed, "18 carries the rows needed");
+        }
         self.compare(
             &answer.expect("the original answers"),
-            block.map_or(0, <[f32]>::len),
+            block.map(<[f32]>::len),
             seen,
         );
     }
 
-    fn compare(&mut self, original: &Answer, taken: usize, seen: &mut Seen) {
+    fn compare(&mut self, original: &Answer, block: Option<usize>, seen: &mut Seen) {
         let (port, config) = (&self.port, &self.config);
         let [frames, loud, quiet, reported] = port.counted();
         let stats = original.stats;
@@ -294,7 +297,8 @@ impl Sides {
                 seen.long_rows += 1;
             }
         }
-        self.demand.call(port, &readings, taken, rows);
+        self.demand.call(port, &readings, block, rows);
+        assert!(port.zeros_past(), "zeros past the used parts of the arrays");
         seen.frames += frames;
         seen.loud += loud;
         seen.rows += reported;

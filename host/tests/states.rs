@@ -44,6 +44,8 @@ struct Seen {
     malformed: u64,
     /// Changed states that are sound all the same.
     sound: u64,
+    /// Of those, calls that were not refused by 17 or 18.
+    accepted: u64,
 }
 
 impl AddAssign for Seen {
@@ -51,6 +53,7 @@ impl AddAssign for Seen {
         self.states += other.states;
         self.malformed += other.malformed;
         self.sound += other.sound;
+        self.accepted += other.accepted;
     }
 }
 
@@ -60,56 +63,52 @@ impl Seen {
             states,
             malformed,
             sound,
+            accepted,
         } = self;
         format!(
-            "{states} states, {what}: {malformed} malformed, each refused by 19 in detect, flush, reset and six readings with nothing written, {sound} sound and \
-             accepted; 0 differences"
+            "{states} states, {what}: {malformed} malformed, each refused by 19 in detect, flush, reset and six readings with nothing written; {sound} sound, with \
+             readings of what stands there, and a call of each not refused by 19 ({accepted} accepted); 0 differences"
         )
     }
 }
 
-/// Asks everything of a state, and holds the answers to the judge. The memory is as it was afterwards.
+/// Asks everything of a state, and holds the answers to the judge. A malformed state is refused before anything else that could be refused is looked at: a
+/// block that is too long, a bad sample, a start that no reset allows. The memory is as it was afterwards.
 fn ask(memory: &mut Memory, kept: &mut Memory, random: &mut Random, seen: &mut Seen) {
     seen.states += 1;
     let mut rows = [7; 64];
-    let block = [0.25; 40];
-    let length = random.within(0, 40) as usize;
+    kept.numbers.copy_from_slice(&memory.numbers);
+    kept.floats.copy_from_slice(&memory.floats);
     if judge::sound(memory) {
         seen.sound += 1;
-        for reading in READINGS {
-            assert_eq!(
-                unpacked(reading(&memory.numbers, &memory.floats)).0,
-                0,
-                "{:?}",
-                memory.numbers
-            );
-        }
-        kept.numbers.copy_from_slice(&memory.numbers);
-        kept.floats.copy_from_slice(&memory.floats);
-        let (refusal, _) = unpacked(match random.within(0, 2) {
+        let (numbers, readings) = (&memory.numbers, memory.readings());
+        assert_eq!(readings.analyzed, numbers[12]);
+        assert_eq!(readings.open, (numbers[19] == 1).then_some(numbers[20]));
+        assert_eq!([readings.rows, readings.talk], [numbers[17], numbers[18]]);
+        assert_eq!(readings.floor, memory.floats[4405].to_bits());
+        let block = [0.25; 40];
+        let length = random.within(0, 40) as usize;
+        let (refusal, carried) = unpacked(match random.within(0, 2) {
             0 => kept.detect(&block[..length], &mut rows),
             1 => kept.flush(&mut rows),
             _ => kept.reset(random.word() >> 1),
         });
         let past = memory.received() + length as u64 > 1 << 40;
-        assert!(
-            refusal == 0 || refusal == 18 || (refusal == 17 && past),
-            "{refusal}: {:?}",
-            memory.numbers
-        );
+        match refusal {
+            0 => seen.accepted += 1,
+            17 => assert!(past, "{:?}", memory.numbers),
+            18 => assert!(carried > 9, "{:?}", memory.numbers),
+            _ => panic!("{refusal}: {:?}", memory.numbers),
+        }
         return;
     }
     seen.malformed += 1;
-    kept.numbers.copy_from_slice(&memory.numbers);
-    kept.floats.copy_from_slice(&memory.floats);
+    let numbers = &memory.numbers;
     for reading in READINGS {
-        assert_eq!(
-            reading(&memory.numbers, &memory.floats),
-            19,
-            "{:?}",
-            memory.numbers
-        );
+        assert_eq!(reading(numbers, &memory.floats), 19, "{numbers:?}");
     }
+    let block = [f32::NAN; LONGEST + 1];
+    let length = random.pick(&[0, 1, LONGEST, LONGEST + 1]);
     assert_eq!(
         memory.detect(&block[..length], &mut rows),
         19,
@@ -117,7 +116,7 @@ fn ask(memory: &mut Memory, kept: &mut Memory, random: &mut Random, seen: &mut S
         memory.numbers
     );
     assert_eq!(memory.flush(&mut rows), 19);
-    assert_eq!(memory.reset(0), 19);
+    assert_eq!(memory.reset(random.pick(&[0, u64::MAX])), 19);
     assert!(memory.same(kept), "a refused call writes nothing");
     assert_eq!(rows, [7; 64]);
 }
@@ -272,68 +271,84 @@ fn closed() -> Memory {
 
 type Damage = fn(&mut Memory);
 
-/// Every clause of 01's list, broken alone, and at its edges.
+/// Every clause of 01's list, broken. A setting that a length rests on is broken with that length, where there is one.
 #[test]
 fn each_clause_alone() {
-    let both: &[fn() -> Memory] = &[warming, open, closed];
+    let all: &[fn() -> Memory] = &[warming, open, closed];
     let cases: &[(&str, &[fn() -> Memory], Damage)] = &[
-        ("1", both, |m| m.numbers[0] = 7_999),
-        ("1, above", both, |m| m.numbers[0] = 48_001),
-        ("1, past 32 bits", both, |m| m.numbers[0] += 1 << 32),
-        ("2", both, |m| m.numbers[1] = 0),
-        ("2, above", both, |m| m.numbers[1] = 1_000_000_001),
-        ("3", both, |m| m.floats[4396] = 1.0),
-        ("3, NaN", both, |m| m.floats[4396] = f32::NAN),
-        ("4", both, |m| m.floats[4397] = 1.0),
-        ("5", both, |m| m.floats[4399] = 0.999),
-        ("6", both, |m| m.floats[4398] = f32::INFINITY),
-        ("6, below release", both, |m| m.floats[4398] = 1.2),
-        ("7", both, |m| m.floats[4400] = -1e-45),
-        ("8", both, |m| m.floats[4401] = 1.0),
-        ("9", both, |m| m.floats[4402] = 0.0),
-        ("10", both, |m| m.numbers[5] = 0),
-        ("11", both, |m| {
+        ("1", all, |m| m.numbers[0] = 7_999),
+        ("1, above", all, |m| {
+            m.numbers[0] = 48_001;
+            m.numbers[7] = 480;
+            m.numbers[8] = 480;
+            m.numbers[10] = 2_400;
+        }),
+        ("1, past 32 bits", all, |m| m.numbers[0] += 1 << 32),
+        ("2", all, |m| m.numbers[1] = 0),
+        ("2, above", all, |m| m.numbers[1] = 1_000_000_001),
+        ("3", all, |m| m.floats[4396] = -0.001),
+        ("3, above", all, |m| m.floats[4396] = 1.0),
+        ("3, NaN", all, |m| m.floats[4396] = f32::NAN),
+        ("4", all, |m| m.floats[4397] = 1.0),
+        ("4, NaN", all, |m| m.floats[4397] = f32::NAN),
+        ("5", all, |m| m.floats[4399] = 0.999),
+        ("5, NaN", all, |m| m.floats[4399] = f32::NAN),
+        ("6", all, |m| m.floats[4398] = f32::INFINITY),
+        ("6, below release", all, |m| m.floats[4398] = 1.2),
+        ("7", all, |m| m.floats[4400] = -1e-45),
+        ("7, infinite", all, |m| m.floats[4400] = f32::INFINITY),
+        ("8", all, |m| m.floats[4401] = 1.0),
+        ("8, NaN", all, |m| m.floats[4401] = f32::NAN),
+        ("9", all, |m| m.floats[4402] = 0.0),
+        ("9, NaN", all, |m| m.floats[4402] = f32::NAN),
+        ("10", all, |m| m.numbers[5] = 0),
+        ("11", all, |m| {
             m.numbers[1] = 300_000_000;
             m.numbers[7] = 2_400;
             m.numbers[8] = 2_400;
             m.numbers[9] = 1;
         }),
-        ("12", both, |m| {
+        ("12", all, |m| {
             m.numbers[1] = 875_000;
             m.numbers[7] = 7;
             m.numbers[8] = 7;
             m.numbers[9] = 343;
         }),
-        ("13, padding", both, |m| m.numbers[4] = 1_000_000_001),
-        ("13, hangover", both, |m| m.numbers[3] = 10_001),
-        ("13, least frames", both, |m| m.numbers[5] = 10_001),
-        ("13, start", both, |m| m.numbers[6] = 1 << 63),
-        ("14, window", both, |m| m.floats[40] = 1.000_000_1),
-        ("14, NaN in the window", both, |m| m.floats[79] = f32::NAN),
-        ("14, rise", both, |m| m.floats[4403] = 0.499_999_97),
-        ("a flag", both, |m| m.numbers[2] = 2),
-        ("a flag", both, |m| m.numbers[14] += 2),
-        ("a flag", both, |m| m.numbers[19] += 2),
-        ("frame's length", both, |m| m.numbers[7] += 1),
-        ("hop's length", both, |m| m.numbers[8] -= 1),
-        ("warm-up frames", both, |m| m.numbers[9] += 1),
-        ("padding in samples", both, |m| m.numbers[10] ^= 1),
+        ("13, padding", all, |m| {
+            m.numbers[4] = 1_000_000_001;
+            m.numbers[10] = 8_000;
+        }),
+        ("13, hangover", all, |m| m.numbers[3] = 10_001),
+        ("13, least frames", all, |m| m.numbers[5] = 10_001),
+        ("13, start", all, |m| m.numbers[6] = 1 << 63),
+        ("14, window", all, |m| m.floats[40] = 1.000_000_1),
+        ("14, NaN in the window", all, |m| m.floats[79] = f32::NAN),
+        ("14, below", all, |m| m.floats[40] = -1e-45),
+        ("14, rise", all, |m| m.floats[4403] = 0.499_999_97),
+        ("14, rise above", all, |m| m.floats[4403] = 1.000_000_1),
+        ("a flag", all, |m| m.numbers[2] = 2),
+        ("a flag", all, |m| m.numbers[14] += 2),
+        ("a flag", all, |m| m.numbers[19] += 2),
+        ("frame's length", all, |m| m.numbers[7] += 1),
+        ("hop's length", all, |m| m.numbers[8] -= 1),
+        ("warm-up frames", all, |m| m.numbers[9] += 1),
+        ("padding in samples", all, |m| m.numbers[10] ^= 1),
         ("the carry is a frame long", &[closed, open], |m| {
             m.numbers[12] = m.numbers[13] - 80;
             m.numbers[11] = 80;
         }),
-        ("carry start plus carry", both, |m| m.numbers[12] += 1),
+        ("carry start plus carry", all, |m| m.numbers[12] += 1),
         ("carry start plus carry", &[closed, open], |m| {
             m.numbers[11] -= 1
         }),
-        ("a carried value", both, |m| m.floats[2_048] = 131_073.0),
-        ("a carried value", both, |m| {
+        ("a carried value", all, |m| m.floats[2_048] = 131_073.0),
+        ("a carried value", all, |m| {
             m.floats[2_048] = f32::NEG_INFINITY
         }),
-        ("the last sample", both, |m| m.floats[4404] = f32::NAN),
-        ("the last sample", both, |m| m.floats[4404] = -65_537.0),
-        ("the floor", both, |m| m.floats[4405] = f32::INFINITY),
-        ("the floor", both, |m| m.floats[4405] = 0.000_099),
+        ("the last sample", all, |m| m.floats[4404] = f32::NAN),
+        ("the last sample", all, |m| m.floats[4404] = -65_537.0),
+        ("the floor", all, |m| m.floats[4405] = f32::INFINITY),
+        ("the floor", all, |m| m.floats[4405] = 0.000_099),
         ("received", &[closed], |m| {
             m.numbers[12] = (1 << 40) + 1 - m.numbers[11];
             m.numbers[13] = (1 << 40) + 1;
@@ -341,8 +356,8 @@ fn each_clause_alone() {
         ("last segment end", &[closed], |m| {
             m.numbers[16] = m.numbers[13] + 1
         }),
-        ("talk", both, |m| m.numbers[18] = m.numbers[16] + 1),
-        ("rows", both, |m| m.numbers[17] = m.numbers[13] + 1),
+        ("talk", all, |m| m.numbers[18] = m.numbers[16] + 1),
+        ("rows", all, |m| m.numbers[17] = m.numbers[13] + 1),
         ("held frames reach the warm-up", &[warming], |m| {
             m.numbers[15] = 30;
             m.numbers[12] = 2_400;
@@ -417,6 +432,47 @@ fn the_edges_are_sound() {
         ("the greatest energy total", open, |m| {
             m.floats[4406] = 2f32.powi(60)
         }),
+        ("last segment end equal to received", closed, |m| {
+            m.numbers[16] = m.numbers[13]
+        }),
+        ("talk equal to the last segment end", closed, |m| {
+            m.numbers[18] = m.numbers[16]
+        }),
+        ("the greatest last sample", closed, |m| {
+            m.floats[4404] = -65_536.0
+        }),
+        ("one loud frame", open, |m| {
+            m.numbers[23] = 1;
+            m.numbers[22] = 0;
+        }),
+        ("as many loud frames as samples", open, |m| {
+            m.numbers[23] = m.numbers[13]
+        }),
+        ("the least held energy", warming, |m| m.floats[4_096] = 0.0),
+        ("the greatest held energy", warming, |m| {
+            m.floats[4_097] = 131_072.0
+        }),
+        ("one frame fewer than the warm-up", warming, |m| {
+            m.numbers[15] = 29;
+            m.numbers[12] = 2_320;
+            m.numbers[13] = 2_340;
+        }),
+        ("a carry of a frame less one", closed, |m| {
+            m.numbers[11] = 79;
+            m.numbers[12] = m.numbers[13] - 79;
+        }),
+        ("the ends of the settings", closed, |m| {
+            m.floats[4397] = 0.0;
+            m.floats[4399] = 1.0;
+            m.floats[4398] = 1.0;
+            m.floats[4400] = 0.0;
+            m.floats[4401] = 0.0;
+            m.numbers[3] = 10_000;
+            m.numbers[5] = 10_000;
+            m.numbers[6] = (1 << 63) - 1;
+            m.floats[4403] = 0.5;
+            m.floats[40] = 1.0;
+        }),
         ("rows equal to received", closed, |m| {
             m.numbers[17] = m.numbers[13]
         }),
@@ -469,10 +525,13 @@ fn the_stream_s_end() {
     assert_eq!(memory.detect(&[0.0; 10], &mut []), 0);
     assert_eq!(memory.received(), 1 << 40);
     assert_eq!(memory.detect(&[], &mut []), 0);
-    assert_eq!(memory.detect(&[0.0], &mut []), 17);
     // 16 comes before 17, and 15 before both.
-    assert_eq!(memory.detect(&[f32::NAN], &mut []), 16);
-    assert_eq!(memory.detect(&[f32::NAN; 1_025], &mut []), 15);
+    let before = memory.clone();
+    let mut rows = [7; 14];
+    assert_eq!(memory.detect(&[0.0], &mut rows), 17);
+    assert_eq!(memory.detect(&[f32::NAN], &mut rows), 16);
+    assert_eq!(memory.detect(&[f32::NAN; 1_025], &mut rows), 15);
+    assert!(memory.same(&before) && rows == [7; 14]);
 }
 
 /// Memory that is too short, by one place or by many; and longer memory, whose rest stays.

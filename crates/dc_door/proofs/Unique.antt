@@ -1,12 +1,13 @@
 -- Two answers of the door that meet a contract are equal, and so is what it leaves in a lent slice.
 use mathlib.Core.Path.{_≡_}
+use mathlib.Core.Bool.{Bool}
 use mathlib.Core.List.{List}
 use Prim.Native.Nat.{ℕ}
 use lib.Ieee.{Float}
 use Rattle.float.proofs.Unique.{only}
 use Rattle.dc_state.specs.declared.PreprocessingConfig.{PreprocessingConfig}
 use Rattle.dc_highpass.specs.declared.VadContext.{VadContext}
-use Rattle.dc_door.specs.FilterDoor.{openAnswer, openState, processAnswer, processState, processOutput, resetAnswer, resetState, biasAnswer}
+use Rattle.dc_door.specs.FilterDoor.{settingsOf, labelOf, openAnswer, openState, processAnswer, processState, processOutput, resetAnswer, resetState, biasAnswer}
 
 module _ (ws : List ℕ) (r q : ℕ) (ss ts : List ℕ) where
   pub open-unique : (c : PreprocessingConfig) (xs : List Float) → (r ≡ openAnswer c xs ws) × (ss ≡ openState c xs ws) → (q ≡ openAnswer c xs ws) × (ts ≡ openState c xs ws) → (r ≡ q) × (ss ≡ ts)
@@ -24,3 +25,10 @@ module _ (ws : List ℕ) (r q : ℕ) (ss ts : List ℕ) where
 
 pub output-unique : (ws : List ℕ) (xs : List Float) (label : VadContext) (out r q : List Float) → r ≡ processOutput ws xs label out → q ≡ processOutput ws xs label out → r ≡ q
 output-unique ws xs label out r q = only
+
+pub settings-unique : (cutoff : Float) (rate : ℕ) (alpha : Float) (removal highpass fourth : Bool) (r q : PreprocessingConfig)
+    → r ≡ settingsOf cutoff rate alpha removal highpass fourth → q ≡ settingsOf cutoff rate alpha removal highpass fourth → r ≡ q
+settings-unique cutoff rate alpha removal highpass fourth r q = only
+
+pub label-unique : (context silence : Bool) (r q : VadContext) → r ≡ labelOf context silence → q ≡ labelOf context silence → r ≡ q
+label-unique context silence r q = only

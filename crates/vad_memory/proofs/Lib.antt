@@ -1,3 +1,4 @@
 pub mod Put
 pub mod Parts
 pub mod RoundTrip
+pub mod Unique

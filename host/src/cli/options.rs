@@ -9,50 +9,68 @@ use fallowcart::{Detector, HighpassOrder, PreprocessingConfig, VadConfig};
 use super::time::{parse_duration, parse_nanos};
 
 pub const HELP: &str = "\
-fallowcart finds speech in a recording and prints where each stretch of it begins and ends.
+fallowcart finds speech in a recording and prints where it begins and ends.
 
-  fallowcart segments FILE [OPTION..]     a recording in a file
-  fallowcart segments - [OPTION..]        a recording as it comes on standard input
+  fallowcart segments FILE [OPTION..]    a recording in a file
+  fallowcart segments - [OPTION..]       one as it comes on standard input
   fallowcart --help, fallowcart --version
 
-The recording is raw mono samples, little endian. To make one from a file of another kind:
+The recording is raw mono samples, little endian. To make one from another kind:
 
-  sox talk.wav -t raw -e signed -b 16 -c 1 -r 16000 talk.s16
+  sox talk.wav -t raw -e signed -b 16 -L -c 1 -r 16000 talk.s16
 
 What is read and printed:
-  --rate HZ                  samples a second, 8000 to 48000               [16000]
-  --format s16|f32           signed 16-bit numbers, taken as parts of
-                             32,768, or 32-bit floats                      [s16]
-  --block N                  samples a call, 1 to 1024; where rows end can
-                             depend on it                                  [1024]
-  --tsv                      a table for programs, with a line of names: the times in
-                             nanoseconds, confidence, score and energy in full
+  --rate HZ                 samples a second, 8000 to 48000         [16000]
+  --format s16|f32          signed 16-bit numbers, of which 32,768
+                            is full scale, or 32-bit floats, of
+                            which 1 is                              [s16]
+  --block N                 samples a call, 1 to 1024; where rows
+                            end can depend on it, and small ones
+                            are slow                                [1024]
+  --tsv                     a table for programs: times in ns, numbers in full
 
-The detector. A duration has a unit: ns, us, ms or s.
-  --frame-duration TIME      length of a frame, 1ns to 1s                  [20ms]
-  --frame-overlap X          overlap of neighbouring frames, in [0,1)      [0.5]
-  --pre-emphasis X|off       the a of y[n] = x[n] - a x[n-1], in [0,1)     [0.97]
-  --activation-ratio X       times the background that begins a segment    [2.5]
-  --release-ratio X          times the background that goes on with it     [1.3]
-  --min-speech-energy X      frames of less energy are never speech        [0.0005]
-  --noise-smoothing X        of the background in silence, in [0,1)        [0.85]
-  --energy-floor X           the background's least energy, above 0        [0.0001]
-  --hangover-frames N        quiet frames a segment lives through          [20]
-  --speech-padding TIME      sound added at both ends, at most 1s          [50ms]
-  --min-speech-frames N      loud frames of a segment that is printed      [3]
-  --stream-start-time TIME   when the recording begins                     [0s]
+The detector. A TIME has a unit: ns, us, ms or s. Energy is the root mean square
+of a frame, after pre-emphasis and windowing.
+  --frame-duration TIME     length of a frame, at most 2,048
+                            samples                                 [20ms]
+  --frame-overlap X         of neighbouring frames, in [0,1); at
+                            most 300 frames may begin in 0.3 s      [0.5]
+  --pre-emphasis X|off      the a of y[n] = x[n] - a x[n-1], in
+                            [0,1)                                   [0.97]
+  --activation-ratio X      times the background's energy that
+                            begin a segment, at least the next      [2.5]
+  --release-ratio X         times the background's energy that go
+                            on with it, at least 1                  [1.3]
+  --min-speech-energy X     frames of less are never speech         [0.0005]
+  --noise-smoothing X       how slowly the background is followed
+                            in silence, in [0,1)                    [0.85]
+  --energy-floor X          the background's least energy, above 0  [0.0001]
+  --hangover-frames N       quiet frames that a segment lives
+                            through, at most 10000                  [20]
+  --speech-padding TIME     sound added at both ends, at most 1s    [50ms]
+  --min-speech-frames N     least loud frames of a segment that is
+                            printed, 1 to 10000                     [3]
+  --stream-start-time TIME  when the recording begins, below 2^63ns [0s]
 
 The filter, which is off:
-  --filter                   take away a constant bias, then low rumble, before detecting
-  --highpass-cutoff-hz HZ    20 to below half the rate                     [80]
-  --highpass-order 2|4       12 or 24 dB an octave                         [4]
-  --dc-bias-alpha X          smoothing of the bias, in (0,1)               [0.95]
-  --no-highpass              the bias alone
-  --no-dc-removal            the high-pass alone
+  --filter                  take away a constant bias, then low rumble, first
+  --highpass-cutoff-hz HZ   20 to below half the rate               [80]
+  --highpass-order 2|4      12 or 24 dB an octave                   [4]
+  --dc-bias-alpha X         how slowly the bias is followed, in
+                            (0,1)                                   [0.95]
+  --no-highpass             the bias alone
+  --no-dc-removal           the high-pass alone
 
-Rows are in order and never overlap. From standard input each is printed as it closes; of a file
-all are printed once it has been read, so that nothing is printed of one that cannot be used.
-Bad options, a file that cannot be read or samples out of range: a message and status 2.
+A row has its start and end with the padding, its length, its confidence (0: the
+loud frames are at the background, 1: 20 dB or more above it), how many frames
+were loud, and their mean energy. Rows are in order and never overlap; the last
+line says how much of the recording they are. With --tsv the columns are named,
+and there is no last line.
+
+From standard input each row is printed as it closes. Of a file all are printed
+once it has been read, so that nothing is printed of one that cannot be used.
+Bad options, a file that cannot be read or samples out of range: a message and
+status 2. After -- a word is a file, whatever it begins with.
 ";
 
 #[derive(Debug, Clone, Copy, PartialEq)]
@@ -123,24 +141,30 @@ fn parse_segments(mut words: impl Iterator<Item = OsString>) -> Result<Command, 
     };
     let mut filter = PreprocessingConfig::default();
     let mut filtered = false;
+    let mut options_over = false;
     while let Some(word) = words.next() {
-        let text = word
-            .to_str()
-            .filter(|text| text.starts_with('-') && *text != "-");
-        let Some(text) = text else {
+        if !options_over && word == "--" {
+            options_over = true;
+            continue;
+        }
+        let option = !options_over && word.as_encoded_bytes().starts_with(b"-") && word != "-";
+        if !option {
             if source.is_some() {
                 return Err(format!(
                     "one recording at a time: '{}' is a second one",
                     word.display()
                 ));
             }
-            source = Some(if word == "-" {
+            source = Some(if word == "-" && !options_over {
                 Source::StandardInput
             } else {
                 Source::File(word.into())
             });
             continue;
-        };
+        }
+        let text = word
+            .to_str()
+            .ok_or_else(|| format!("there is no option '{}'", word.display()))?;
         let (name, value) = match text.split_once('=') {
             Some((name, value)) => (name, Some(value.to_string())),
             None => (text, None),
@@ -185,6 +209,9 @@ fn parse_segments(mut words: impl Iterator<Item = OsString>) -> Result<Command, 
         .find(|name| !filtered && given.contains(**name))
     {
         return Err(format!("{name} says nothing without --filter"));
+    }
+    if filtered && !filter.enable_highpass && !filter.enable_dc_removal {
+        return Err("--no-highpass and --no-dc-removal leave nothing to filter".into());
     }
     filter.sample_rate_hz = job.detector.sample_rate;
     job.filter = filtered.then_some(filter);
@@ -286,4 +313,27 @@ fn whole<N: std::str::FromStr>(text: &str) -> Result<N, String> {
 
 fn number(text: &str) -> Result<f32, String> {
     text.parse().map_err(|_| format!("'{text}' is no number"))
+}
+
+/// The options that the settings of a refusal come from.
+pub fn named(refusal: u32) -> &'static str {
+    match refusal {
+        1 => "--rate",
+        2 => "--frame-duration",
+        3 => "--frame-overlap",
+        4 => "--pre-emphasis",
+        5 => "--release-ratio",
+        6 => "--activation-ratio, --release-ratio",
+        7 => "--min-speech-energy",
+        8 => "--noise-smoothing",
+        9 => "--energy-floor",
+        10 => "--min-speech-frames",
+        11 => "--rate, --frame-duration",
+        12 => "--rate, --frame-duration, --frame-overlap",
+        13 => "--speech-padding, --hangover-frames, --min-speech-frames, --stream-start-time",
+        21 => "--highpass-cutoff-hz",
+        22 | 24 => "--highpass-cutoff-hz, --rate",
+        23 => "--dc-bias-alpha",
+        _ => "the settings",
+    }
 }

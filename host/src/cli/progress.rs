@@ -26,7 +26,7 @@ impl Progress {
         })
     }
 
-    pub fn at(&mut self, received: u64, rows: impl FnOnce() -> u64) {
+    pub fn at(&mut self, received: u64, rows: usize) {
         let now = Instant::now();
         if now < self.next {
             return;
@@ -37,11 +37,10 @@ impl Progress {
         // What cannot be shown is no reason to stop.
         let _ = write!(
             std::io::stderr(),
-            "\r{:3} %, {} of {}, {} segments ",
+            "\r{:3} %, {} of {}, segments: {rows} ",
             received * 100 / self.total.max(1),
             sound(received),
             sound(self.total),
-            rows(),
         );
     }
 }

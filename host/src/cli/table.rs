@@ -9,7 +9,7 @@ pub fn head(tsv: bool) -> &'static str {
     if tsv {
         "start_sample\tend_sample\tstart_time_ns\tend_time_ns\tconfidence\tscore_total\tloud_frames\tmean_energy\n"
     } else {
-        "       start          end     length  confidence  loud frames  mean energy\n"
+        "           start              end     length confidence loud frames mean energy\n"
     }
 }
 
@@ -28,7 +28,7 @@ pub fn row(tsv: bool, row: &SpeechChunk) -> String {
         );
     }
     format!(
-        "{:>12} {:>12} {:>8.3} s {:>11.2} {:>12} {:>12.4}\n",
+        "{:>16} {:>16} {:>8.3} s {:>10.2} {:>11} {:>11.6}\n",
         clock(row.start_time),
         clock(row.end_time),
         (row.end_time - row.start_time) as f64 / 1e9,
@@ -44,7 +44,7 @@ pub fn summary(rows: u64, talk: u64, received: u64, rate: u32) -> String {
     let talk = clock(length(talk, rate));
     match rows {
         0 => format!("no speech in {sound} of sound\n"),
-        1 => format!("1 segment, {talk} of {sound}\n"),
-        _ => format!("{rows} segments, {talk} of {sound}\n"),
+        1 => format!("1 segment: {talk} of speech in {sound} of sound\n"),
+        _ => format!("{rows} segments: {talk} of speech in {sound} of sound\n"),
     }
 }

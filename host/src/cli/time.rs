@@ -61,7 +61,7 @@ pub fn clock(nanos: u64) -> String {
     )
 }
 
-/// How long so many samples are.
+/// How long so many samples are, at most 2^40 of them.
 pub fn length(samples: u64, rate: u32) -> u64 {
     let rate = u64::from(rate);
     samples / rate * NANOS + samples % rate * NANOS / rate

@@ -4,11 +4,18 @@ use std::collections::VecDeque;
 
 use fallowcart::VadConfig;
 
+use crate::detector_for_original::{for_original, padding_samples, warmup_frames};
 use crate::memory::{Memory, Readings};
 
-/// What was seen since the opening or the latest reset.
+/// What was seen since the opening or the latest reset. The lengths are the original's, and no number of the port's state is asked for them.
 pub struct Demand {
     hangover: u64,
+    frame: u64,
+    hop: u64,
+    warmup: u64,
+    padding: u64,
+    /// A flush ended the warm-up.
+    flushed: bool,
     received: u64,
     undecided: u64,
     /// Where the latest row ended.
@@ -21,8 +28,15 @@ pub struct Demand {
 
 impl Demand {
     pub fn new(config: &VadConfig) -> Demand {
+        let original = for_original(config);
+        let hop = original.hop_length_samples().expect("accepted");
         Demand {
             hangover: config.hangover_frames as u64,
+            frame: original.frame_length_samples().expect("accepted") as u64,
+            hop: hop as u64,
+            warmup: warmup_frames(hop, config.sample_rate) as u64,
+            padding: padding_samples(config.speech_padding, config.sample_rate) as u64,
+            flushed: false,
             received: 0,
             undecided: 0,
             end: 0,
@@ -32,9 +46,16 @@ impl Demand {
         }
     }
 
-    /// After an accepted call that took so many samples and reported these rows.
-    pub fn call(&mut self, memory: &Memory, readings: &Readings, taken: usize, rows: &[[u64; 7]]) {
-        self.received += taken as u64;
+    /// After an accepted call: a block of so many samples, or the stream's end, with these rows.
+    pub fn call(
+        &mut self,
+        memory: &Memory,
+        readings: &Readings,
+        block: Option<usize>,
+        rows: &[[u64; 7]],
+    ) {
+        self.received += block.unwrap_or(0) as u64;
+        self.flushed |= block.is_none();
         for row in rows {
             let (start, end) = (row[0], row[1]);
             assert!(self.end <= start, "rows in order, never overlapping");
@@ -64,11 +85,18 @@ impl Demand {
         assert_eq!(readings.talk, self.talk);
 
         let open = readings.open.is_some();
-        if !memory.warming() && !open {
+        let frames = (self.received + self.hop).saturating_sub(self.frame) / self.hop;
+        let warmed_up = self.flushed || frames >= self.warmup;
+        assert_eq!(
+            memory.warming(),
+            !warmed_up,
+            "warm-up ends when its count is reached or a flush comes"
+        );
+        if warmed_up && !open {
             let trails = self.received - undecided;
             assert!(
-                trails < memory.frame_length() + memory.padding(),
-                "it trails the sound by less"
+                trails < self.frame + self.padding,
+                "it trails the sound by less than a frame plus the padding"
             );
         }
         // The calls that hold the last hangover + 1 frames; what came before them is forgotten. Where calls judge at most one frame this is exact.

@@ -103,12 +103,13 @@ impl Memory {
         }
     }
 
-    pub fn frame_length(&self) -> u64 {
-        self.numbers[7]
-    }
-
-    pub fn padding(&self) -> u64 {
-        self.numbers[10]
+    /// Whether zeros stand past the window, the carry and the energies held.
+    pub fn zeros_past(&self) -> bool {
+        let [frame, carry, held] = [7, 11, 15].map(|place| self.numbers[place] as usize);
+        let parts = [frame..2_048, 2_048 + carry..4_096, 4_096 + held..4_396];
+        parts
+            .into_iter()
+            .all(|part| self.floats[part].iter().all(|x| x.to_bits() == 0))
     }
 
     pub fn received(&self) -> u64 {

@@ -23,10 +23,9 @@ fn flag(word: u64) -> Option<bool> {
 /// The settings in the memory, where each number is one of its type.
 fn settings(memory: &Memory) -> Option<VadConfig> {
     let (n, x) = (&memory.numbers, &memory.floats);
-    let limited = |nanos: u64| Duration::from_nanos(nanos);
     Some(VadConfig {
         sample_rate: u32::try_from(n[0]).ok()?,
-        frame_duration: limited(n[1]),
+        frame_duration: Duration::from_nanos(n[1]),
         frame_overlap: x[4396],
         pre_emphasis: flag(n[2])?.then_some(x[4397]),
         activation_ratio: x[4398],
@@ -35,7 +34,7 @@ fn settings(memory: &Memory) -> Option<VadConfig> {
         noise_smoothing: x[4401],
         energy_floor: x[4402],
         hangover_frames: n[3] as usize,
-        speech_padding: limited(n[4]),
+        speech_padding: Duration::from_nanos(n[4]),
         min_speech_frames: n[5] as usize,
         stream_start_time: n[6],
     })

@@ -1,0 +1,24 @@
+-- Two answers that meet a contract are equal, and so is what is left in lent memory.
+use mathlib.Core.Path.{_≡_}
+use mathlib.Core.Bool.{Bool}
+use mathlib.Core.List.{List}
+use Prim.Native.Nat.{ℕ}
+use lib.Ieee.{Float}
+use Rattle.float.proofs.Unique.{only}
+use Rattle.vad_state.specs.declared.VadDetector.{VadDetector}
+use Rattle.vad_call.specs.declared.Tally.{Tally}
+use Rattle.vad_memory.specs.DetectorState.{detectorAt, longEnough, readable, numbersWritten, floatsWritten}
+
+module _ (ns : List ℕ) (fs : List Float) where
+  pub long-enough-unique : (r q : Bool) → r ≡ longEnough ns fs → q ≡ longEnough ns fs → r ≡ q
+  long-enough-unique r q = only
+
+  pub well-formed-unique : (r q : Bool) → r ≡ readable ns fs → q ≡ readable ns fs → r ≡ q
+  well-formed-unique r q = only
+
+  pub detector-at-unique : (r q : VadDetector) → r ≡ detectorAt ns fs → q ≡ detectorAt ns fs → r ≡ q
+  detector-at-unique r q = only
+
+  module _ (d : VadDetector) (t : Tally) (ms ls : List ℕ) (gs hs : List Float) where
+    pub put-detector-unique : (ms ≡ numbersWritten d t ns) × (gs ≡ floatsWritten d fs) → (ls ≡ numbersWritten d t ns) × (hs ≡ floatsWritten d fs) → (ms ≡ ls) × (gs ≡ hs)
+    put-detector-unique h k = (only (h .0) (k .0), only (h .1) (k .1))
