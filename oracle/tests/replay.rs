@@ -210,6 +210,125 @@ fn blocks(list: &mut List, probe: &Probe, from: usize, to: usize, lengths: &[usi
     }
 }
 
+/// Runs of whole frames of 80 samples without overlap, one a call, past a warm-up that a flush ended: `.` is quiet, `-` between the two ratios, `#` loud, `f` a
+/// flush, and `r` a reset with a flush after it. Each run is about one rule.
+fn rules(list: &mut List) {
+    let plain = VadConfig {
+        frame_duration: AudioDuration::from_millis(10),
+        frame_overlap: 0.0,
+        pre_emphasis: None,
+        activation_ratio: 4.0,
+        release_ratio: 2.0,
+        min_speech_energy: 0.0,
+        noise_smoothing: 0.0,
+        energy_floor: 0.001,
+        hangover_frames: 1,
+        speech_padding: AudioDuration::from_millis(5),
+        min_speech_frames: 1,
+        ..settings()
+    };
+    let ms = AudioDuration::from_millis;
+    let changed = |change: fn(&mut VadConfig)| {
+        let mut config = plain.clone();
+        change(&mut config);
+        config
+    };
+    for (config, run) in [
+        // The ratios: between them nothing begins, and what is open goes on.
+        (plain.clone(), "..---..#--..."),
+        // A silence run of the hangover stays, one more closes; hangover frames do not move the end.
+        (changed(|c| c.hangover_frames = 0), "..#.##..#.."),
+        (changed(|c| c.hangover_frames = 2), "..#..#...#...."),
+        // Runs of too few loud frames are dropped, and still move the end that a new start and a padding stop at.
+        (changed(|c| c.min_speech_frames = 3), "..##..###..#..f"),
+        (changed(|c| c.min_speech_frames = 2), ".#..##..#f.##.."),
+        // Padding: none, more than the pause, more than the stream has.
+        (
+            changed(|c| c.speech_padding = AudioDuration::ZERO),
+            "..##..#..",
+        ),
+        (
+            changed(|c| c.speech_padding = AudioDuration::from_millis(40)),
+            "..#...#...#...",
+        ),
+        (
+            changed(|c| c.speech_padding = AudioDuration::from_secs(1)),
+            "#...##...#",
+        ),
+        // The gate: loud for the ratio, too quiet for it.
+        (changed(|c| c.min_speech_energy = 0.2), "..--#..##-.."),
+        // The floor: quick, slow, and from the energy floor up.
+        (changed(|c| c.noise_smoothing = 0.99), "..####..-##..."),
+        (changed(|c| c.energy_floor = 0.25), "..##..####...."),
+        (changed(|c| c.release_ratio = 1.0), "..#-.-....#..."),
+        (changed(|c| c.activation_ratio = 2.0), "..-.--..#..."),
+        // Flush in speech, in a pause and in silence, detect after it, and a reset.
+        (plain.clone(), "..#f#.f.f##r..#..#f"),
+        // Pre-emphasis over the block's edge.
+        (changed(|c| c.pre_emphasis = Some(0.5)), "..##-..#..."),
+    ] {
+        let mut probe = open(list, config.clone());
+        list.flush(&probe);
+        let mut at = 0;
+        for call in run.chars() {
+            let level = match call {
+                'f' => {
+                    list.flush(&probe);
+                    continue;
+                }
+                'r' => {
+                    list.reset(&mut probe, ms(7).as_nanos() as u64);
+                    list.flush(&probe);
+                    continue;
+                }
+                '#' => 1.0,
+                '-' => 0.05,
+                _ => 0.015_625,
+            };
+            let block: Vec<f32> = (at..at + 80)
+                .map(|n| level * (0.75 + 0.25 * noise(n)))
+                .collect();
+            list.detect(&probe, &block);
+            at += 80;
+        }
+        list.flush(&probe);
+    }
+}
+
+/// Settings that the port refuses, by number.
+fn bad_settings() -> Vec<(VadConfig, u32)> {
+    let changed = |number, change: fn(&mut VadConfig)| {
+        let mut config = settings();
+        change(&mut config);
+        (config, number)
+    };
+    vec![
+        changed(1, |c| c.sample_rate = 7_999),
+        changed(1, |c| c.sample_rate = 48_001),
+        changed(2, |c| c.frame_duration = AudioDuration::ZERO),
+        changed(2, |c| {
+            c.frame_duration = AudioDuration::from_nanos(1_000_000_001)
+        }),
+        changed(3, |c| c.frame_overlap = 1.0),
+        changed(4, |c| c.pre_emphasis = Some(-0.01)),
+        changed(5, |c| c.release_ratio = 0.99),
+        changed(6, |c| c.activation_ratio = 1.2),
+        changed(7, |c| c.min_speech_energy = f32::INFINITY),
+        changed(8, |c| c.noise_smoothing = 1.0),
+        changed(9, |c| c.energy_floor = 0.0),
+        changed(10, |c| c.min_speech_frames = 0),
+        changed(12, |c| c.frame_overlap = 0.96),
+        changed(13, |c| {
+            c.speech_padding = AudioDuration::from_nanos(1_000_000_001)
+        }),
+        changed(13, |c| c.hangover_frames = 10_001),
+        changed(13, |c| c.min_speech_frames = 10_001),
+        changed(13, |c| {
+            c.stream_start_time = AudioTimestamp::from_nanos(1 << 63)
+        }),
+    ]
+}
+
 fn runs() -> List {
     let mut list = List::default();
 
@@ -270,7 +389,12 @@ fn runs() -> List {
     blocks(&mut list, &probe, 0, 9_000, &[1_024, 5]);
     list.flush(&probe);
 
-    // Settings that are refused, and calls on the state that such an opening leaves.
+    rules(&mut list);
+
+    // Settings that are refused, one number after the other, and calls on the state that such an opening leaves.
+    for (config, number) in bad_settings() {
+        list.opening(&config, &[], 0.75, number);
+    }
     let refused = VadConfig {
         frame_duration: AudioDuration::from_millis(300),
         ..settings()
