@@ -92,8 +92,8 @@ static inline uint64_t fallowcart_carried(uint64_t answer) { return answer >> 8;
  *    7  frame's length           17  rows reported                27  .. quiet frames
  *    8  hop's length             18  talk samples                 28  .. rows that it reported
  *    9  warm-up frames           19  a segment is open
- * 1, 4 and 6 are in nanoseconds. 2, 14 and 19 are 0 or 1. The library writes 0 to 20 to 24 and to the float 4406 where no segment is open, and to 25 to 28
- * at an opening and a reset; it does not look at them then.
+ * 1, 4 and 6 are in nanoseconds. 2, 14 and 19 are 0 or 1. Where no segment is open, the library writes zeros to 20 .. 24 and to the float 4406, and does not
+ * look at them. It never looks at 25 .. 28, and an opening or a reset makes them 0.
  *
  * floats
  *       0 to 2047  the window, a frame long; past the used part of an array the library writes zeros and looks at nothing
