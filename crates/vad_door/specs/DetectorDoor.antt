@@ -30,7 +30,7 @@ module _ (c : VadConfig) (window : List Float) (rise : Float) (ns : List ℕ) (f
   unfoldable pub openFloats : List Float
   openFloats = cond (longEnough ns fs) (floatsWritten (openOf c window rise .detector) fs) fs
 
--- ---- detect and flush
+-- ---- detect, flush and reset
 
 -- given what the core answers: a refusal, the unreadable state's 19 included, leaves the memory as it is
 module _ (ns : List ℕ) (fs : List Float) (p : Detected) where
@@ -57,7 +57,7 @@ flushedRows ns fs rows = cond (readable ns fs) (flushRows (detectorAt ns fs) row
 
 -- ---- reset: nothing was counted by it
 
--- in the form of a call's answer
+-- in the form of a call's answer: the number, 0 where it is accepted, nothing carried, and a tally of zeros
 abbrev pub restarted : List ℕ → List Float → ℕ → Detected
 restarted ns fs start = let r = resetOf (detectorAt ns fs) start in refusedBy (r .refusal) 0 (r .detector)
 

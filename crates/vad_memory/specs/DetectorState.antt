@@ -1,5 +1,5 @@
 -- The detector's state as the host keeps it: 29 numbers of 64 bits and 4,407 floats.
--- The numbers:
+-- The numbers, durations and times in nanoseconds:
 --   0 rate, 1 frame duration, 2 pre-emphasis present, 3 hangover frames, 4 padding, 5 least speech frames, 6 stream start
 --   7 frame length, 8 hop length, 9 warm-up frames, 10 padding in samples
 --   11 carry's length, 12 carry's start, 13 samples received, 14 warming up, 15 frames held
@@ -9,7 +9,7 @@
 -- The floats:
 --   0 to 2047 window, 2048 to 4095 carry, 4096 to 4395 energies held
 --   4396 overlap, 4397 pre-emphasis, 4398 activation, 4399 release, 4400 least energy, 4401 smoothing, 4402 energy floor, 4403 rise weight
---   4404 last sample, 4405 noise floor, 4406 energy total of the open segment
+--   4404 last sample, 4405 noise floor, 4406 energy total of the open segment, 0 where none is open
 -- A flag is 0 or 1.
 use mathlib.Core.Bool.{Bool, true, false, _&&_, cond}
 use mathlib.Core.List.{List, [], _∷_, _++_}
