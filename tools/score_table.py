@@ -71,19 +71,19 @@ def score(bits):
 def source(table):
     rows = "".join(f"    0x{n >> 16:04x}_{n & 0xFFFF:04x},\n" for n in table)
     return f"""// Made by tools/score_table.py.
-ghost use Prim.Native.Nat.{{_≤_}};
+ghost use Prim.Native.Nat.{{ℕ, _≤_}};
+ghost use lib.ListN.{{getD}};
 ghost use Rattle.score.specs.Score.{{Threshold}};
 
 // Entry k: the bits of the least f32 above 0 whose 1,024th power reaches 10^k.
 const THRESHOLDS: [u32; {len(table)}] = [
 {rows}];
 
-// The only function that names the table.
-pub(crate) fn threshold(k: usize) -> u32
-    requires {{ ⌜ k ≤ {TOP} ⌝ }}
-    ensures {{ λ r. ⌜ Threshold k r ⌝ }}
+// The only function that names the table: whoever reads several entries asks once, since a constant is written out where it stands.
+pub(crate) fn table() -> [u32; {len(table)}]
+    ensures {{ λ r. ⌜ ((k : ℕ) → k ≤ {TOP} → Threshold k (getD r k 0)) ⌝ }}
 {{
-    THRESHOLDS[k]
+    THRESHOLDS
 }}
 """
 

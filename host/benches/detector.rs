@@ -3,28 +3,21 @@
 //! Both sides get the same blocks and keep their state from block to block. The port's figure holds the door's call and the checks of its state and of the
 //! block; the original's holds the lock and the vectors that it makes for each block. Rounds alternate between the two sides, and the median round counts.
 
+#[path = "common/breakfast.rs"]
+mod breakfast;
 #[path = "../tests/common/detector_for_original.rs"]
 mod detector_for_original;
 
 use std::hint::black_box;
 use std::time::{Duration, Instant};
 
+use breakfast::breakfast;
 use detector_for_original::for_original;
 use fallowcart::{Detector, VadConfig};
 use speech_prep::VadDetector;
 
 const ROUNDS: usize = 41;
 const CALLS: usize = 2_000;
-
-/// The recording of examples/, 16 s at 16,000 samples a second.
-fn breakfast() -> Vec<f32> {
-    let path = concat!(env!("CARGO_MANIFEST_DIR"), "/../examples/breakfast.s16");
-    let bytes = std::fs::read(path).expect("the example");
-    let samples = bytes.as_chunks().0.iter();
-    samples
-        .map(|word| f32::from(i16::from_le_bytes(*word)) / 32_768.0)
-        .collect()
-}
 
 struct Sides {
     port: Detector,

@@ -1,16 +1,15 @@
 -- One stage's step, 'as `Biquad::process` does'.
 use lib.Ieee.{Float, nan, binary32, sub, mul}
+use Rattle.float.specs.Finite.{orElse}
 use Rattle.float.specs.Fused.{fusedOf}
 use Rattle.float.specs.declared.Rounded.{Rounded}
-use Rattle.float.specs.declared.Rounded.the-variants.{Finite, Nothing}
 use Rattle.dc_state.specs.declared.biquad.Biquad.{Biquad}
 use Rattle.dc_state.specs.declared.biquad.BiquadCoefficients.{BiquadCoefficients}
 use Rattle.dc_state.specs.declared.biquad.BiquadState.{BiquadState}
 
 -- the number, and a NaN for the word that there is none
 abbrev pub orNan : Rounded → Float
-orNan (Finite x) = x
-orNan Nothing = nan
+orNan = orElse nan
 
 -- acc = b0 · x + (b1 · x1 + b2 · x2), and from it a1 · y1 + a2 · y2 is taken; the products that are added to are fused
 unfoldable pub outputOf : BiquadCoefficients → BiquadState → Float → Float

@@ -34,11 +34,7 @@ pub struct Stepped {
 pub fn fused(a: f32, b: f32, c: f32) -> f32
     ensures { λ r. ⌜ r ≡ orNan (fusedOf a b c) ⌝ }
 {
-    let r = float::mul_add(a, b, c);
-    match r {
-        float::Rounded::Finite(x) => x,
-        float::Rounded::Nothing => 0.0 / 0.0,
-    }
+    float::mul_add_or(a, b, c, 0.0 / 0.0)
 }
 
 // `Biquad::process` by value.

@@ -6,7 +6,7 @@ use lib.IntN.{pos}
 use lib.Ieee.{Float, binary32, ofBits, toBits, ofInt}
 use lib.Ieee.Scale.{finite}
 use Rattle.float.specs.declared.Rounded.{Rounded}
-use Rattle.float.specs.Finite.{orZero}
+use Rattle.float.specs.Finite.{orElse, orZero}
 use Rattle.float.specs.Fused.{fusedOf}
 use Rattle.float.specs.Root.{rootOf}
 use Rattle.float.specs.Whole.{roundOf, ceilOf}
@@ -17,6 +17,9 @@ only p q = p ∙ sym q
 
 pub mul-add-unique : (a b c : Float) (r q : Rounded) → r ≡ fusedOf a b c → q ≡ fusedOf a b c → r ≡ q
 mul-add-unique a b c r q = only
+
+pub mul-add-or-unique : (a b c other r q : Float) → r ≡ orElse other (fusedOf a b c) → q ≡ orElse other (fusedOf a b c) → r ≡ q
+mul-add-or-unique a b c other r q = only
 
 pub sqrt-unique : (x : Float) (r q : Rounded) → r ≡ rootOf x → q ≡ rootOf x → r ≡ q
 sqrt-unique x r q = only

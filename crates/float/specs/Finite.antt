@@ -11,7 +11,11 @@ rounded nan = Nothing
 rounded (inf s) = Nothing
 rounded (fin s m e) = Finite (fin s m e)
 
+-- the number, and another for the word
+abbrev pub orElse : Float → Rounded → Float
+orElse other (Finite x) = x
+orElse other Nothing = other
+
 -- the number, and 0 for the word
 abbrev pub orZero : Rounded → Float
-orZero (Finite x) = x
-orZero Nothing = fin false 0 (pos 0)
+orZero = orElse (fin false 0 (pos 0))

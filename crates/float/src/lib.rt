@@ -10,7 +10,7 @@ pub mod whole;
 ghost use mathlib.Core.Path.{_≡_};
 ghost use lib.Ieee.{binary32, ofBits, toBits};
 ghost use lib.Ieee.Scale.{finite};
-ghost use Rattle.float.specs.Finite.{orZero};
+ghost use Rattle.float.specs.Finite.{orElse, orZero};
 ghost use Rattle.float.specs.Fused.{fusedOf};
 ghost use Rattle.float.specs.Root.{rootOf};
 
@@ -20,14 +20,20 @@ pub enum Rounded {
     Nothing,
 }
 
+fn or_else(r: Rounded, other: f32) -> f32
+    ensures { λ x. ⌜ x ≡ orElse other r ⌝ }
+{
+    match r {
+        Rounded::Finite(number) => number,
+        Rounded::Nothing => other,
+    }
+}
+
 // The number, and 0 for the word: for callers whose bounds rule the word out.
 pub fn or_zero(r: Rounded) -> f32
     ensures { λ x. ⌜ x ≡ orZero r ⌝ }
 {
-    match r {
-        Rounded::Finite(x) => x,
-        Rounded::Nothing => 0.0,
-    }
+    or_else(r, 0.0)
 }
 
 // Neither an infinity nor a NaN.
@@ -58,15 +64,26 @@ pub fn to_bits(x: f32) -> u32
     f32::to_bits(x)
 }
 
-// a * b + c, rounded once. There is none where an operand is not finite, or where the rounded result overflows.
-pub fn mul_add(a: f32, b: f32, c: f32) -> Rounded
-    ensures { λ r. ⌜ r ≡ fusedOf a b c ⌝ }
+// a * b + c, rounded once, or another number where there is none: where an operand is not finite, or where the rounded result overflows.
+// A float, and not a `Rounded`: a function hands that over through memory, and the filter waits for each result.
+pub fn mul_add_or(a: f32, b: f32, c: f32, other: f32) -> f32
+    ensures { λ r. ⌜ r ≡ orElse other (fusedOf a b c) ⌝ }
 {
     let quick = narrow::narrowed(narrow::wide_bits(a, b, c));
     match quick {
-        Rounded::Finite(x) => Rounded::Finite(x),
-        Rounded::Nothing => whole_mul_add(a, b, c),
+        Rounded::Finite(x) => x,
+        Rounded::Nothing => or_else(whole_mul_add(a, b, c), other),
     }
+}
+
+pub fn mul_add(a: f32, b: f32, c: f32) -> Rounded
+    ensures { λ r. ⌜ r ≡ fusedOf a b c ⌝ }
+{
+    let sum = mul_add_or(a, b, c, 0.0 / 0.0);
+    if sum != sum {
+        return Rounded::Nothing;
+    }
+    Rounded::Finite(sum)
 }
 
 // The same in whole numbers, for the results that an f64 does not settle: a middle of two f32, a subnormal, an overflow.

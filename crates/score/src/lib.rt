@@ -13,11 +13,12 @@ fn search(bits: u32) -> usize
     requires { ⌜ bits ≤ 0x7f80_0000 ⌝ }
     ensures { λ r. ⌜ r ≡ scoreOf (ofBits binary32 bits) ⌝ }
 {
+    let thresholds = thresholds::table();
     let mut lo = 0;
     let mut hi = 1025;
     while 1 < hi - lo {
         let mid = lo + (hi - lo) / 2;
-        if thresholds::threshold(mid) <= bits {
+        if thresholds[mid] <= bits {
             lo = mid;
         } else {
             hi = mid;

@@ -1,5 +1,6 @@
 // Made by tools/score_table.py.
-ghost use Prim.Native.Nat.{_≤_};
+ghost use Prim.Native.Nat.{ℕ, _≤_};
+ghost use lib.ListN.{getD};
 ghost use Rattle.score.specs.Score.{Threshold};
 
 // Entry k: the bits of the least f32 above 0 whose 1,024th power reaches 10^k.
@@ -1031,10 +1032,9 @@ const THRESHOLDS: [u32; 1025] = [
     0x4120_0000,
 ];
 
-// The only function that names the table.
-pub(crate) fn threshold(k: usize) -> u32
-    requires { ⌜ k ≤ 1024 ⌝ }
-    ensures { λ r. ⌜ Threshold k r ⌝ }
+// The only function that names the table: whoever reads several entries asks once, since a constant is written out where it stands.
+pub(crate) fn table() -> [u32; 1025]
+    ensures { λ r. ⌜ ((k : ℕ) → k ≤ 1024 → Threshold k (getD r k 0)) ⌝ }
 {
-    THRESHOLDS[k]
+    THRESHOLDS
 }

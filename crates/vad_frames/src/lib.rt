@@ -26,7 +26,7 @@ pub fn coefficient(has_pre_emphasis: bool, pre_emphasis: f32) -> f32
 fn emphasize(coeff: f32, previous: f32, sample: f32) -> f32
     ensures { λ r. ⌜ r ≡ emphasizedOf coeff previous sample ⌝ }
 {
-    float::or_zero(float::mul_add(coeff, -previous, sample))
+    float::mul_add_or(coeff, -previous, sample, 0.0)
 }
 
 // Writes a block's values and answers its last raw sample, which the next block's first is emphasized with.

@@ -54,8 +54,8 @@ pub fn at_least(least: f32, x: f32) -> f32
 pub fn next_floor(least: f32, weight: f32, floor: f32, energy: f32) -> f32
     ensures { λ r. ⌜ r ≡ floorOf least weight floor energy ⌝ }
 {
-    let blend = float::mul_add(weight, floor, (1.0 - weight) * energy);
-    at_least(least, float::or_zero(blend))
+    let blend = float::mul_add_or(weight, floor, (1.0 - weight) * energy, 0.0);
+    at_least(least, blend)
 }
 
 pub fn lesser(m: f32, energy: f32) -> f32

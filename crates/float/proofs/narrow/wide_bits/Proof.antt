@@ -13,39 +13,30 @@ use Rattle.float.proofs.narrow.wide_bits.Tie as tie
 casts : (x : Float) → T (fits binary32 x) → ne x x ≡ false → T (fits binary64 x && not (isNan x))
 casts x t h = and-i (fits binary64 x) (not (isNan x)) (fits-widens x t) (T-not-of (sym (differs x) ∙ h))
 
-special-requires : tie.Need-special-requires
-special-requires c κs = search needs
-
 returns : tie.Need-returns
 returns c = inl refl
 
-special-requires-2 : tie.Need-special-requires-2
-special-requires-2 c κs = search needs
-
 returns-2 : tie.Need-returns-2
 returns-2 c = inl refl
-
-special-requires-3 : tie.Need-special-requires-3
-special-requires-3 c κs = search needs
 
 returns-3 : tie.Need-returns-3
 returns-3 c = inl refl
 
 float-to-float-sum : tie.Need-float-to-float-sum
-float-to-float-sum c = casts (c .before .before .before .before .before .before .before .args .a) (c .row-known .given) (c .before .before .before .before .before .before .special .ensures (c .before .before .before .before .before .if1 .left))
+float-to-float-sum c = casts (c .before .before .before .before .args .a) (c .row-known .given) (c .before .before .before .if1 .left)
 
 float-to-float-sum-2 : tie.Need-float-to-float-sum-2
-float-to-float-sum-2 c = casts (c .before .before .before .before .before .before .before .before .args .b) (c .row-known2 .given) (c .before .before .before .before .before .special2 .ensures (c .before .before .before .before .if2 .left))
+float-to-float-sum-2 c = casts (c .before .before .before .before .before .args .b) (c .row-known2 .given) (c .before .before .before .if2 .left)
 
 float-to-float-sum-3 : tie.Need-float-to-float-sum-3
-float-to-float-sum-3 c = casts (c .before .before .before .before .before .before .before .before .before .args .c) (c .row-known3 .given) (c .before .before .before .before .special3 .ensures (c .before .before .before .if3 .left))
+float-to-float-sum-3 c = casts (c .before .before .before .before .before .before .args .c) (c .row-known3 .given) (c .before .before .before .if3 .left)
 
 returns-4 : tie.Need-returns-4
 returns-4 c = inl refl
 
 float-to-bits-result : tie.Need-float-to-bits-result
 float-to-bits-result c =
-    let s = c .before .before .before .before .before .before .before .before .before .before .args in
+    let s = c .before .before .before .before .before .before .before .args in
     T-not-of (sym (differs (add binary64 (mul binary64 (s .a) (s .b)) (s .c))) ∙ c .if4 .left)
 
 returns-5 : tie.Need-returns-5
@@ -55,11 +46,8 @@ pub wide-bits-spec : {M : Type 1} → statement M
 wide-bits-spec =
     tie.close
     (tie.spec
-    special-requires
     returns
-    special-requires-2
     returns-2
-    special-requires-3
     returns-3
     float-to-float-sum
     float-to-float-sum-2
