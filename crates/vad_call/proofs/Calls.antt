@@ -4,7 +4,7 @@ use mathlib.Core.Bool.{Bool, true, false, not, _&&_, cond, true≢false}
 use mathlib.Core.List.{List, [], _∷_, _++_}
 use Prim.Native.Nat.{ℕ, _+_, _-_, _^_, _≤_, _<_}
 use native.Mathlib.Omega.{arith}
-use borrow.Author.Tests.{lt-ltb, le-ltb, ltb-true}
+use borrow.Author.Tests.{lt-ltb, le-ltb, ltb-true, eq-eqb, ne-eqb}
 use lib.Dec.{ltb, lit≤}
 use lib.ListN.{length, take, drop, length-append, length-take, length-drop}
 use lib.Seq.{sets, length-take-le}
@@ -24,11 +24,16 @@ use Rattle.vad_segments.proofs.Laws.{flat-length, room-enough}
 use Rattle.vad_segments.proofs.Ordered.{call-rows-counted}
 use Rattle.vad_classify.specs.Classify.{classifiedOf}
 use Rattle.vad_classify.specs.declared.Classified.{Classified}
+use Rattle.vad_state.specs.Arrays.{filledOf}
+use Rattle.vad_state.specs.Kept as numbers
+use Rattle.vad_state.specs.Kept.{wholeOf}
 use Rattle.vad_state.specs.State.{windowOf, carriedOf, heldOf}
-use Rattle.vad_call.specs.Calls.{valuesOf, waitingOf, measuredFrom, measuredOf, consumedFrom, carryAfter, progressOf, holdingWith, holdingOf, keptOf, dueOf, seededOf, gridStart, framesDue, verdictOf, rowsDue, refusedBy, acceptedOf, tooMany, concludedOf, reportedIn, ranOf, rowsOfCall, writtenOf}
+use Rattle.vad_call.specs.Calls.{valuesOf, waitingOf, measuredFrom, measuredOf, consumedFrom, carryAfter, progressOf, holdingWith, holdingOf, keptOf, dueOf, seededOf, gridStart, framesDue, verdictOf, rowsDue, refusedBy, acceptedOf, tooMany, concludedOf, reportedIn, ranOf, rowsOfCall, writtenOf, tallyOf, advancedOf, unheardOf, listenedOf, heardOf, joinedOf, settledOf}
 use Rattle.vad_state.specs.declared.VadDetector.{VadDetector}
 use Rattle.vad_call.specs.declared.Progress.{Progress}
 use Rattle.vad_call.specs.declared.Detected.{Detected}
+use Rattle.vad_call.specs.declared.Heard.{Heard}
+use Rattle.vad_call.specs.declared.Judged.{Judged}
 use Rattle.lists.specs.Stores.{from-start}
 use Rattle.vad_state.proofs.Fills.{take-again, put-back, put-rest, put-on}
 use Rattle.vad_state.proofs.Parts.{Sound, frame-high, hop-low, hop-high, warmup-high}
@@ -298,6 +303,114 @@ module _ (finish : Bool) (d : VadDetector) (es : List Float) (p : Progress) (car
   unfolding concludedOf holdingOf keptOf
   accepted-concluded off holds h kept g c e r a = a ∙ rw (sym t ∙ off, k, e, g, h)
 
+-- ---- concluded
+-- the energies held, as many as are counted
+held-length : (holds : Bool) (frames : ℕ) (es : List Float) → frames ≡ length es → cond holds frames 0 ≡ length (cond holds es [])
+held-length true frames es e = e
+held-length false frames es e = refl
+
+held-part : (holds : Bool) (frames : ℕ) (energies : List Float) → take (cond holds frames 0) energies ≡ cond holds (take (frames - 0) energies) []
+held-part true frames energies = sym (from-start frames energies)
+held-part false frames energies = refl
+
+module _ (d : VadDetector) (p : Progress) (total : ℕ) (f : Framed) (j : Judged) (values energies : List Float) where
+  unheard-settled : settledOf (unheardOf (numbers.keptOf d) (j .needed)) values energies d ≡ refusedBy 18 (j .needed) d
+  unfolding settledOf unheardOf refusedBy
+  unheard-settled = refl
+
+  made : ℕ → ℕ → List Float → List Float → Detected
+  made n m carry held =
+      record {
+        refusal = record { number = 0; carries = 0 };
+        detector =
+            record {
+              rules = d .rules;
+              window = filledOf 2048 (windowOf d);
+              carry = filledOf 2048 carry;
+              «carry_len» = n;
+              «carry_start» = p .«carry_start»;
+              «processed_samples» = p .«processed_samples»;
+              «pre_emphasis_prev» = p .«pre_emphasis_prev»;
+              warming = j .holds;
+              warmup = filledOf 300 held;
+              held = m;
+              track = j .classified .track;
+            };
+        tally = tallyOf (j .classified) (j .needed);
+      }
+
+  alike : {n n' m m' : ℕ} {a a' : List Float} → n ≡ n' → m ≡ m' → a ≡ a' → (carry : List Float) → made n m carry a ≡ made n' m' carry a'
+  alike x y z carry = rw (x, y, z)
+
+  listened-settled : (held : List Float) → total - f .consumed ≡ length (take (total - f .consumed) (drop (f .consumed) values)) → cond (j .holds) (f .frames) 0 ≡ length held → take (cond (j .holds) (f .frames) 0) energies ≡ held
+      → settledOf (listenedOf (numbers.keptOf d) p total f j) values energies d ≡ acceptedOf d p (j .holds) (take (total - f .consumed) (drop (f .consumed) values)) held (j .classified) (j .needed)
+  unfolding settledOf listenedOf joinedOf wholeOf numbers.keptOf acceptedOf advancedOf made
+  listened-settled held a b c = alike a b c (take (total - f .consumed) (drop (f .consumed) values))
+
+-- what `concluded` answers, settled
+module _ (finish : Bool) (d : VadDetector) (p : Progress) (total : ℕ) (f : Framed) (values energies : List Float) (room : ℕ) (j : Judged)
+    (t : j .refused ≡ tooMany (rowsDue finish d (p .«processed_samples») (dueOf finish d (take (f .frames - 0) energies))) room)
+    (n : j .needed ≡ length (rowsDue finish d (p .«processed_samples») (dueOf finish d (take (f .frames - 0) energies))))
+    (h : j .holds ≡ holdingWith finish d (length (take (f .frames - 0) energies)))
+    (v : j .classified ≡ verdictOf finish d (p .«processed_samples») (dueOf finish d (take (f .frames - 0) energies)))
+    (many : f .frames ≡ length (take (f .frames - 0) energies))
+    (rest : total - f .consumed ≡ length (take (total - f .consumed) (drop (f .consumed) values))) where
+  heard-concluded : settledOf (heardOf (numbers.keptOf d) p total f j) values energies d ≡ concludedOf finish d p (take (total - f .consumed) (drop (f .consumed) values)) (take (f .frames - 0) energies) room
+  unfolding heardOf
+  heard-concluded = go (j .refused) refl
+    where
+      es : List Float
+      es = take (f .frames - 0) energies
+
+      carry : List Float
+      carry = take (total - f .consumed) (drop (f .consumed) values)
+
+      go : (b : Bool) → j .refused ≡ b → settledOf (cond b (unheardOf (numbers.keptOf d) (j .needed)) (listenedOf (numbers.keptOf d) p total f j)) values energies d ≡ concludedOf finish d p carry es room
+      go true on = refused-concluded finish d es p carry room (j .refused) t (j .needed) n on (settledOf (unheardOf (numbers.keptOf d) (j .needed)) values energies d) (unheard-settled d p total f j values energies)
+      go false off =
+          accepted-concluded finish d es p carry room (j .refused) t (j .needed) n off (j .holds) h (cond (j .holds) es []) refl (j .classified) v (settledOf (listenedOf (numbers.keptOf d) p total f j) values energies d)
+          (listened-settled d p total f j values energies (cond (j .holds) es []) rest (held-length (j .holds) (f .frames) es many) (held-part (j .holds) (f .frames) energies))
+
+  -- where the new carry and the energies held stand
+  heard-fits : Sound d → total ≤ 3072 → f .consumed ≤ total → length (take (total - f .consumed) (drop (f .consumed) values)) ≤ 2048
+      → (heardOf (numbers.keptOf d) p total f j .refusal .number ≡ 0 → (heardOf (numbers.keptOf d) p total f j .consumed + heardOf (numbers.keptOf d) p total f j .kept .«carry_len» ≤ 3072) × (heardOf (numbers.keptOf d) p total f j .kept .«carry_len» ≤ 2048) × (heardOf (numbers.keptOf d) p total f j .kept .held ≤ 300))
+  unfolding heardOf unheardOf listenedOf
+  heard-fits s most used short = go (j .refused)
+    where
+      heard : Bool → Heard
+      heard b = cond b (unheardOf (numbers.keptOf d) (j .needed)) (listenedOf (numbers.keptOf d) p total f j)
+
+      go : (b : Bool) → heard b .refusal .number ≡ 0 → (heard b .consumed + heard b .kept .«carry_len» ≤ 3072) × (heard b .kept .«carry_len» ≤ 2048) × (heard b .kept .held ≤ 300)
+      go true z = absurd (omega arith)
+      go false z =
+          let few = kept-few finish d (take (f .frames - 0) energies) (j .holds) h s (cond (j .holds) (take (f .frames - 0) energies) []) refl in
+          let held = held-length (j .holds) (f .frames) (take (f .frames - 0) energies) many in
+          (omega arith, omega arith, omega arith)
+
+-- the numbers after the call
+module _ (d : VadDetector) (p : Progress) (total : ℕ) (f : Framed) (j : Judged) (values energies : List Float) where
+  heard-kept : heardOf (numbers.keptOf d) p total f j .kept ≡ numbers.keptOf (settledOf (heardOf (numbers.keptOf d) p total f j) values energies d .detector)
+  unfolding heardOf unheardOf listenedOf settledOf joinedOf wholeOf numbers.keptOf
+  heard-kept = go (j .refused)
+    where
+      heard : Bool → Heard
+      heard b = cond b (unheardOf (numbers.keptOf d) (j .needed)) (listenedOf (numbers.keptOf d) p total f j)
+
+      go : (b : Bool) → heard b .kept ≡ numbers.keptOf (settledOf (heard b) values energies d .detector)
+      go true = refl
+      go false = refl
+
+  heard-start : p .«carry_start» ≡ d .«carry_start» + f .consumed → heardOf (numbers.keptOf d) p total f j .kept .«carry_start» ≡ d .«carry_start» + heardOf (numbers.keptOf d) p total f j .consumed
+  unfolding heardOf unheardOf listenedOf numbers.keptOf
+  heard-start e = go (j .refused)
+    where
+      heard : Bool → Heard
+      heard b = cond b (unheardOf (numbers.keptOf d) (j .needed)) (listenedOf (numbers.keptOf d) p total f j)
+
+      go : (b : Bool) → heard b .kept .«carry_start» ≡ d .«carry_start» + heard b .consumed
+      go true = omega arith
+      go false = e
+
 -- ---- run
 -- the carry and the block fit the array of values
 pub total-few : (d : VadDetector) → Sound d → (n : ℕ) → n ≤ 1024 → d .«carry_len» + n ≤ 3072
@@ -329,6 +442,13 @@ module _ (finish : Bool) (d : VadDetector) (s : Sound d) (xs : List Float) (most
         ∙ put-rest blank (valuesOf d xs) consumed (d .«carry_len» + length xs) values-many (omega arith) consumed-few
         ∙ ap (λ (k : ℕ). drop k (valuesOf d xs)) consumed-is
 
+    pub carry-count : d .«carry_len» + length xs - consumed ≡ length (take (d .«carry_len» + length xs - consumed) (drop consumed values))
+    unfolding carryAfter
+    carry-count =
+        let back = ap length carry-back in
+        let left = length-drop (consumedFrom finish d (valuesOf d xs)) (valuesOf d xs) in
+        omega (arith, consumed-is, values-many)
+
     pub carry-fits : length (take (d .«carry_len» + length xs - consumed) (drop consumed values)) ≤ 2048
     carry-fits = rw carry-back (carry-few finish d s wide xs)
 
@@ -350,6 +470,10 @@ module _ (finish : Bool) (d : VadDetector) (s : Sound d) (xs : List Float) (most
           ∙ put-back to (measuredFrom finish d (take (d .«carry_len» + length xs - 0) values)) frames (sym f) (omega arith)
           ∙ ap (measuredFrom finish d) values-back
 
+      pub frames-count : frames ≡ length (take (frames - 0) energies)
+      unfolding measuredOf
+      frames-count = f ∙ ap (λ (ys : List Float). length (measuredFrom finish d ys)) values-back ∙ sym (ap length energies-back)
+
       pub ran-is : (last : Float) → last ≡ lastOf (d .«pre_emphasis_prev») xs → (room : ℕ) (r : Detected) (p : Progress)
           → r ≡ concludedOf finish d p (take (d .«carry_len» + length xs - consumed) (drop consumed values)) (take (frames - 0) energies) room
           → p ≡ record { «processed_samples» = d .«processed_samples» + length xs; «carry_start» = d .«carry_start» + consumed; «pre_emphasis_prev» = last }
@@ -360,3 +484,64 @@ module _ (finish : Bool) (d : VadDetector) (s : Sound d) (xs : List Float) (most
       pub written-is : (out last : List ℕ) → last ≡ reportedIn (rowsDue finish d (d .«processed_samples» + length xs) (dueOf finish d (take (frames - 0) energies))) out → last ≡ writtenOf finish d xs out
       unfolding writtenOf rowsOfCall
       written-is out last h = h ∙ rw energies-back
+
+-- ---- hear
+module _ (finish : Bool) (d : VadDetector) (s : Sound d) (xs : List Float) (most : length xs ≤ 1024) (wide : length (d .window) ≡ 2048) (long : length (d .carry) ≡ 2048)
+    (blank values : List Float) (b : length blank ≡ 3072) (v : values ≡ sets blank 0 (valuesOf d xs)) (f : Framed) (c : f .consumed ≡ consumedFrom finish d (take (d .«carry_len» + length xs - 0) values))
+    (to energies : List Float) (t : length to ≡ 1024) (e : energies ≡ sets to 0 (measuredFrom finish d (take (d .«carry_len» + length xs - 0) values)))
+    (g : f .frames ≡ length (measuredFrom finish d (take (d .«carry_len» + length xs - 0) values))) (last : Float) (l : last ≡ lastOf (d .«pre_emphasis_prev») xs) (j : Judged)
+    (n : j .needed ≡ length (rowsDue finish d (d .«processed_samples» + length xs) (dueOf finish d (take (f .frames - 0) energies))))
+    (h : j .holds ≡ holdingWith finish d (length (take (f .frames - 0) energies)))
+    (k : j .classified ≡ verdictOf finish d (d .«processed_samples» + length xs) (dueOf finish d (take (f .frames - 0) energies))) where
+  far : Progress
+  far = record { «processed_samples» = d .«processed_samples» + length xs; «carry_start» = d .«carry_start» + f .consumed; «pre_emphasis_prev» = last }
+
+  module _ (out rows : List ℕ) (refused : j .refused ≡ tooMany (rowsDue finish d (d .«processed_samples» + length xs) (dueOf finish d (take (f .frames - 0) energies))) (length out))
+      (written : rows ≡ reportedIn (rowsDue finish d (d .«processed_samples» + length xs) (dueOf finish d (take (f .frames - 0) energies))) out) where
+    ran-heard : settledOf (heardOf (numbers.keptOf d) far (d .«carry_len» + length xs) f j) values energies d ≡ ranOf finish d xs (length out)
+    unfolding far
+    ran-heard =
+        ran-is finish d s xs most wide long blank values b v (f .consumed) c to energies t e (f .frames) g last l (length out) (settledOf (heardOf (numbers.keptOf d) far (d .«carry_len» + length xs) f j) values energies d) far
+        (heard-concluded finish d far (d .«carry_len» + length xs) f values energies (length out) j refused n h k (frames-count finish d s xs most wide long blank values b v (f .consumed) c to energies t e (f .frames) g) (carry-count finish d s xs most wide long blank values b v (f .consumed) c)) refl
+
+    -- all that the contract says
+    pub heard-is : (r : Heard) (p : Progress) → r ≡ heardOf (numbers.keptOf d) p (d .«carry_len» + length xs) f j
+        → p ≡ record { «processed_samples» = d .«processed_samples» + length xs; «carry_start» = d .«carry_start» + f .consumed; «pre_emphasis_prev» = last }
+        → (ranOf finish d xs (length out) ≡ settledOf r values energies d)
+        × (((r .kept ≡ numbers.keptOf (ranOf finish d xs (length out) .detector)) × (r .kept .«carry_start» ≡ d .«carry_start» + r .consumed))
+        × ((r .refusal .number ≡ 0 → (r .consumed + r .kept .«carry_len» ≤ 3072) × (r .kept .«carry_len» ≤ 2048) × (r .kept .held ≤ 300))
+        × (rows ≡ writtenOf finish d xs out)))
+    unfolding far
+    heard-is r p is at =
+        let total = d .«carry_len» + length xs in
+        rw (is, at) (
+          sym ran-heard,
+          (
+            (
+              heard-kept d far total f j values energies ∙ ap (λ (x : Detected). numbers.keptOf (x .detector)) ran-heard,
+              heard-start d far total f j values energies refl,
+            ),
+            (
+              heard-fits finish d far total f values energies (length out) j refused n h k (frames-count finish d s xs most wide long blank values b v (f .consumed) c to energies t e (f .frames) g) (carry-count finish d s xs most wide long blank values b v (f .consumed) c) s (total-few d s (length xs) most) (consumed-few finish d s xs most wide long blank values b v (f .consumed) c) (carry-fits finish d s xs most wide long blank values b v (f .consumed) c),
+              written-is finish d s xs most wide long blank values b v (f .consumed) c to energies t e (f .frames) g out rows written,
+            ),
+          ),
+        )
+
+-- ---- settled and run
+module _ (h : Heard) (values energies : List Float) (d : VadDetector) where
+  pub settled-refused : 1 ≤ h .refusal .number → record { refusal = h .refusal; detector = d; tally = h .tally } ≡ settledOf h values energies d
+  unfolding settledOf
+  settled-refused l = rw (ne-eqb (h .refusal .number) 0 (λ z. omega arith))
+
+  -- the parts as they are lent
+  pub settled-accepted : h .refusal .number ≡ 0 → (after : VadDetector) → after ≡ joinedOf d (h .kept) (take (h .consumed + h .kept .«carry_len» - h .consumed) (drop (h .consumed) values)) (take (h .kept .held - 0) energies)
+      → record { refusal = h .refusal; detector = after; tally = h .tally } ≡ settledOf h values energies d
+  unfolding settledOf
+  settled-accepted z after e =
+      let n : h .consumed + h .kept .«carry_len» - h .consumed ≡ h .kept .«carry_len» = omega arith in
+      rw (eq-eqb (h .refusal .number) 0 z, e, n, from-start (h .kept .held) energies)
+
+  -- w is d taken apart and joined again
+  pub settled-ran : (finish : Bool) (xs : List Float) (room : ℕ) (w : VadDetector) → w ≡ d → ranOf finish w xs room ≡ settledOf h values energies w → (r : Detected) → r ≡ settledOf h values energies d → r ≡ ranOf finish d xs room
+  settled-ran finish xs room w e a r g = g ∙ ap (settledOf h values energies) (sym e) ∙ sym a ∙ ap (λ (x : VadDetector). ranOf finish x xs room) e

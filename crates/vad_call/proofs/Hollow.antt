@@ -85,7 +85,7 @@ module _ (d : VadDetector) where
   unfolding hollowOf wholeOf keptOf rowsDue seededOf framesDue gridStart
   rows-hollow finish received due = refl
 
--- ---- for a `run`: k is what `kept_of` answered of d, or d is `wholeOf k ..` (vad_state's kept-whole)
+-- ---- for `hear`: d is `wholeOf k ..` (vad_state's kept-whole)
 module _ (d : VadDetector) (k : Kept) (e : k ≡ keptOf d) where
   -- what `waiting` answered
   pub waiting-of : Sound d → length (d .warmup) ≡ 300 → (n : ℕ) → n ≡ cond (k .warming) (k .held) 0 → n ≡ length (waitingOf d)

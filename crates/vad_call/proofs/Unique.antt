@@ -1,8 +1,9 @@
 -- Two answers that meet a public function's contract are equal, and so are two slices of rows: each contract is an equation.
-use mathlib.Core.Path.{_≡_, ap, _∙_}
+use mathlib.Core.Path.{_≡_, sym, ap, _∙_}
 use mathlib.Core.Bool.{Bool, cond}
-use mathlib.Core.List.{List, [], _++_}
-use Prim.Native.Nat.{ℕ}
+use mathlib.Core.List.{List, _++_}
+use Prim.Native.Nat.{ℕ, _+_}
+use native.Mathlib.Omega.{arith}
 use lib.ListN.{length, take}
 use lib.Seq.{sets}
 use lib.Ieee.{Float}
@@ -11,11 +12,15 @@ use Rattle.vad_frames.specs.Emphasis.{emphasized, lastOf}
 use Rattle.vad_frames.specs.Grid.{energiesOf, framedOf}
 use Rattle.vad_frames.specs.declared.Framed.{Framed}
 use Rattle.vad_classify.specs.declared.Classified.{Classified}
+use Rattle.vad_state.specs.Kept.{keptOf}
 use Rattle.vad_state.specs.declared.Kept.{Kept}
 use Rattle.vad_state.specs.declared.VadDetector.{VadDetector}
-use Rattle.vad_call.specs.Calls.{holdingWith, dueOf, verdictOf, rowsDue, refusedBy, tooMany, reportedIn, ranOf, writtenOf}
+use Rattle.vad_call.specs.Calls.{holdingWith, dueOf, verdictOf, rowsDue, refusedBy, tooMany, reportedIn, ranOf, writtenOf, settledOf}
 use Rattle.vad_call.specs.declared.Judged.{Judged}
+use Rattle.vad_call.specs.declared.Refusal.{Refusal}
+use Rattle.vad_call.specs.declared.Tally.{Tally}
 use Rattle.vad_call.specs.declared.Detected.{Detected}
+use Rattle.vad_call.specs.declared.Heard.{Heard}
 
 -- ---- the parts of a call
 pub gather-last-unique : (previous : Float) (xs : List Float) (r q : Float) → r ≡ lastOf previous xs → q ≡ lastOf previous xs → r ≡ q
@@ -26,9 +31,6 @@ gather-unique carry n coeff previous xs to r q = only
 
 pub waiting-unique : (k : Kept) (r q : ℕ) → r ≡ cond (k .warming) (k .held) 0 → q ≡ cond (k .warming) (k .held) 0 → r ≡ q
 waiting-unique k r q = only
-
-pub only-if-unique : (holds : Bool) (es r q : List Float) → r ≡ cond holds es [] → q ≡ cond holds es [] → r ≡ q
-only-if-unique holds es r q = only
 
 framed-same : (r q : Framed) → r .frames ≡ q .frames → r .consumed ≡ q .consumed → r ≡ q
 framed-same r q a b =
@@ -74,3 +76,31 @@ run-unique finish d xs room r q = only
 
 pub rows-unique : (finish : Bool) (d : VadDetector) (xs : List Float) (out r q : List ℕ) → r ≡ writtenOf finish d xs out → q ≡ writtenOf finish d xs out → r ≡ q
 rows-unique finish d xs out r q = only
+
+heard-same : (r q : Heard) → r .refusal ≡ q .refusal → r .consumed ≡ q .consumed → r .kept ≡ q .kept → r .tally ≡ q .tally → r ≡ q
+heard-same r q a b c e =
+    ap {B = Heard} (λ (x : Refusal). record { refusal = x; consumed = r .consumed; kept = r .kept; tally = r .tally }) a
+    ∙ ap {B = Heard} (λ (x : ℕ). record { refusal = q .refusal; consumed = x; kept = r .kept; tally = r .tally }) b
+    ∙ ap {B = Heard} (λ (x : Kept). record { refusal = q .refusal; consumed = q .consumed; kept = x; tally = r .tally }) c
+    ∙ ap {B = Heard} (λ (x : Tally). record { refusal = q .refusal; consumed = q .consumed; kept = q .kept; tally = x }) e
+
+module _ (finish : Bool) (d : VadDetector) (xs : List Float) (room : ℕ) where
+  -- `hear`'s contract, whose d is `wholeOf kept ..`, without its bounds; its rows are `run`'s
+  abbrev pub Hears : List Float → List Float → Heard → Type 0
+  Hears values energies r =
+      (ranOf finish d xs room ≡ settledOf r values energies d) × (r .kept ≡ keptOf (ranOf finish d xs room .detector)) × (r .kept .«carry_start» ≡ d .«carry_start» + r .consumed)
+
+  -- whatever else the slices hold
+  pub hear-unique : (vs es : List Float) (r : Heard) (ws fs : List Float) (q : Heard) → Hears vs es r → Hears ws fs q → r ≡ q
+  unfolding settledOf
+  hear-unique vs es r ws fs q a b =
+      let both = sym (a .0) ∙ b .0 in
+      let kept = only (a .1) (b .1) in
+      let start = ap (λ (k : Kept). k .«carry_start») kept in
+      let first = a .2 in
+      let second = b .2 in
+      heard-same r q (ap (λ (x : Detected). x .refusal) both) (omega arith) kept (ap (λ (x : Detected). x .tally) both)
+
+  -- the new carry and the energies held too
+  pub settled-unique : (vs es : List Float) (r : Heard) (ws fs : List Float) (q : Heard) → Hears vs es r → Hears ws fs q → settledOf r vs es d ≡ settledOf q ws fs d
+  settled-unique vs es r ws fs q a b = sym (a .0) ∙ b .0

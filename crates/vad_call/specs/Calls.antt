@@ -1,14 +1,15 @@
 -- One call, as detect and flush share it: what it measures, holds, judges and reports, and the state that it leaves.
 use mathlib.Core.Bool.{Bool, _&&_, cond}
 use mathlib.Core.List.{List, [], _++_}
-use Prim.Native.Nat.{ℕ, _+_}
-use lib.Dec.{ltb}
-use lib.ListN.{length, drop}
+use Prim.Native.Nat.{ℕ, _+_, _-_}
+use lib.Dec.{ltb, eqb}
+use lib.ListN.{length, take, drop}
 use lib.Seq.{sets}
 use lib.Ieee.{Float}
 use Rattle.vad_config.specs.Domain.{zero32}
 use Rattle.vad_frames.specs.Emphasis.{coefficientOf, emphasized, lastOf}
 use Rattle.vad_frames.specs.Grid.{energiesOf, framedOf}
+use Rattle.vad_frames.specs.declared.Framed.{Framed}
 use Rattle.vad_segments.specs.Closing.{roomOf, flat}
 use Rattle.vad_segments.specs.Loudness.{seedOf}
 use Rattle.vad_segments.specs.Judging.{flooredTo, framesAt, callRows}
@@ -20,10 +21,14 @@ use Rattle.vad_classify.specs.Classify.{classifiedOf}
 use Rattle.vad_classify.specs.declared.Classified.{Classified}
 use Rattle.vad_state.specs.State.{windowOf, carriedOf, heldOf}
 use Rattle.vad_state.specs.Arrays.{filledOf}
+use Rattle.vad_state.specs.Kept.{wholeOf}
+use Rattle.vad_state.specs.declared.Kept.{Kept}
 use Rattle.vad_state.specs.declared.VadDetector.{VadDetector}
 use Rattle.vad_call.specs.declared.Progress.{Progress}
 use Rattle.vad_call.specs.declared.Tally.{Tally}
 use Rattle.vad_call.specs.declared.Detected.{Detected}
+use Rattle.vad_call.specs.declared.Heard.{Heard}
+use Rattle.vad_call.specs.declared.Judged.{Judged}
 
 -- ---- a call's sound: its values, and the energies of its frames
 
@@ -153,3 +158,45 @@ rowsOfCall finish d xs = rowsDue finish d (d .«processed_samples» + length xs)
 
 unfoldable pub writtenOf : Bool → VadDetector → List Float → List ℕ → List ℕ
 writtenOf finish d xs out = reportedIn (rowsOfCall finish d xs) out
+
+-- ---- the same call by a state's numbers and its arrays as they are lent
+
+-- refused, the numbers stay
+unfoldable pub unheardOf : Kept → ℕ → Heard
+unheardOf k needed = record { refusal = record { number = 18; carries = needed }; consumed = 0; kept = k; tally = noTally }
+
+-- the carry is what of the values no frame used up; those of the frames that are held stand first among the energies
+unfoldable pub listenedOf : Kept → Progress → ℕ → Framed → Judged → Heard
+listenedOf k p total f j =
+    record {
+      refusal = record { number = 0; carries = 0 };
+      consumed = f .consumed;
+      kept =
+          record {
+            rules = k .rules;
+            «carry_len» = total - f .consumed;
+            «carry_start» = p .«carry_start»;
+            «processed_samples» = p .«processed_samples»;
+            «pre_emphasis_prev» = p .«pre_emphasis_prev»;
+            warming = j .holds;
+            held = cond (j .holds) (f .frames) 0;
+            track = j .classified .track;
+          };
+      tally = tallyOf (j .classified) (j .needed);
+    }
+
+unfoldable pub heardOf : Kept → Progress → ℕ → Framed → Judged → Heard
+heardOf k p total f j = cond (j .refused) (unheardOf k (j .needed)) (listenedOf k p total f j)
+
+-- zeros stand past the used parts of the arrays
+unfoldable pub joinedOf : VadDetector → Kept → List Float → List Float → VadDetector
+joinedOf d k carry held = wholeOf k (filledOf 2048 (windowOf d)) (filledOf 2048 carry) (filledOf 300 held)
+
+-- the answer, from what was heard and the slices that it was heard in
+unfoldable pub settledOf : Heard → List Float → List Float → VadDetector → Detected
+settledOf h values energies d =
+    record {
+      refusal = h .refusal;
+      detector = cond (eqb (h .refusal .number) 0) (joinedOf d (h .kept) (take (h .kept .«carry_len») (drop (h .consumed) values)) (take (h .kept .held) energies)) d;
+      tally = h .tally;
+    }

@@ -9,9 +9,9 @@ ghost use Rattle.vad_frames.specs.Emphasis.{emphasized, lastOf};
 ghost use Rattle.vad_frames.specs.Grid.{framesOf, energiesOf, framedOf};
 ghost use Rattle.vad_segments.specs.Closing.{roomOf, flat};
 ghost use Rattle.vad_segments.specs.Rooms.{LengthsWithin, Within};
-ghost use Rattle.vad_state.specs.Kept.{hollowOf};
+ghost use Rattle.vad_state.specs.Kept.{hollowOf, keptOf, wholeOf};
 ghost use Rattle.vad_state.specs.State.{soundOf};
-ghost use Rattle.vad_call.specs.Calls.{holdingWith, dueOf, seededOf, gridStart, verdictOf, rowsDue, advancedOf, refusedBy, acceptedOf, tooMany, reportedIn, ranOf, writtenOf};
+ghost use Rattle.vad_call.specs.Calls.{holdingWith, dueOf, seededOf, gridStart, verdictOf, rowsDue, noTally, refusedBy, tooMany, reportedIn, ranOf, writtenOf, heardOf, joinedOf, settledOf};
 use vad_classify::Classified;
 use vad_classify::ROW_FIELDS;
 use vad_frames::Framed;
@@ -43,6 +43,14 @@ pub struct Tally {
 pub struct Detected {
     pub refusal: Refusal,
     pub detector: VadDetector,
+    pub tally: Tally,
+}
+
+// What a call heard: 0 or 18, where the new carry starts among the values, and the state's numbers and the tally after it.
+pub struct Heard {
+    pub refusal: Refusal,
+    pub consumed: usize,
+    pub kept: Kept,
     pub tally: Tally,
 }
 
@@ -147,16 +155,6 @@ fn holding(kept: Kept, finish: bool, frames: usize) -> bool
     vad_segments::positions::holds(finish, kept.rules.lengths.warmup_frames, frames)
 }
 
-// The energies if they are held, else none.
-pub fn only_if(holds: bool, energies: &[f32]) -> &[f32]
-    ensures { λ r. ⌜ now r ≡ cond holds (now (energies .entry)) [] ⌝ }
-{
-    if holds {
-        return energies;
-    }
-    &energies[..0]
-}
-
 // The energies unless they are held.
 fn unless(holds: bool, energies: &[f32]) -> &[f32]
     ensures { λ r. ⌜ now r ≡ cond holds [] (now (energies .entry)) ⌝ }
@@ -226,60 +224,16 @@ fn report(kept: Kept, received: u64, due: &[f32], finish: bool, needed: u64, row
     );
 }
 
-// The state after a call that was not refused, in place: its arrays are not copied.
-fn advanced(
-    mut detector: VadDetector,
-    progress: Progress,
-    holds: bool,
-    carry: &[f32],
-    kept: &[f32],
-    track: Track,
-) -> VadDetector
-    requires { ⌜ detector .rules .lengths .«frame_length» ≤ 2048 ⌝ }
-    requires { ⌜ (length (now carry) ≤ 2048) × (length (now kept) ≤ 300) ⌝ }
-    ensures { λ r. ⌜ r ≡ advancedOf detector progress holds (now (carry .entry)) (now (kept .entry)) track ⌝ }
+// What a refused call counts.
+fn no_tally() -> Tally
+    ensures { λ r. ⌜ r ≡ noTally ⌝ }
 {
-    let frame_length = detector.rules.lengths.frame_length;
-    clear_past(&mut detector.window, frame_length);
-    fill(&mut detector.carry, carry);
-    fill_warmup(&mut detector.warmup, kept);
-    detector.carry_len = carry.len();
-    detector.carry_start = progress.carry_start;
-    detector.processed_samples = progress.processed_samples;
-    detector.pre_emphasis_prev = progress.pre_emphasis_prev;
-    detector.warming = holds;
-    detector.held = kept.len();
-    detector.track = track;
-    detector
-}
-
-fn accepted(
-    detector: VadDetector,
-    progress: Progress,
-    holds: bool,
-    carry: &[f32],
-    kept: &[f32],
-    classified: Classified,
-    rows: usize,
-) -> Detected
-    requires { ⌜ detector .rules .lengths .«frame_length» ≤ 2048 ⌝ }
-    requires { ⌜ (length (now carry) ≤ 2048) × (length (now kept) ≤ 300) ⌝ }
-    ensures { λ r. ⌜ r ≡ acceptedOf detector progress holds (now (carry .entry)) (now (kept .entry)) classified rows ⌝ }
-{
-    let track = classified.track;
-    Detected {
-        refusal: Refusal {
-            number: 0,
-            carries: 0,
-        },
-        detector: advanced(detector, progress, holds, carry, kept, track),
-        tally: Tally {
-            frames: classified.frames,
-            loud: classified.loud,
-            quiet: classified.quiet,
-            noise_floor: classified.track.noise_floor,
-            rows,
-        },
+    Tally {
+        frames: 0,
+        loud: 0,
+        quiet: 0,
+        noise_floor: 0.0,
+        rows: 0,
     }
 }
 
@@ -290,13 +244,7 @@ pub fn refused(number: u32, carries: usize, detector: VadDetector) -> Detected
     Detected {
         refusal: Refusal { number, carries },
         detector,
-        tally: Tally {
-            frames: 0,
-            loud: 0,
-            quiet: 0,
-            noise_floor: 0.0,
-            rows: 0,
-        },
+        tally: no_tally(),
     }
 }
 
@@ -337,66 +285,196 @@ pub fn judge(kept: Kept, received: u64, energies: &[f32], finish: bool, rows: &m
     }
 }
 
-// A block heard, or with `finish` the stream's end. The arrays of the state are lent here: a callee that took the state and lent them would copy them.
+// How many frames go on being held.
+fn held_after(holds: bool, frames: usize) -> usize
+    ensures { λ r. ⌜ r ≡ cond holds frames 0 ⌝ }
+{
+    if holds {
+        return frames;
+    }
+    0
+}
+
+// What was heard of `total` values, once their frames are judged.
+fn concluded(
+    mut kept: Kept,
+    progress: Progress,
+    total: usize,
+    framed: Framed,
+    judged: Judged,
+) -> Heard
+    requires { ⌜ framed .consumed ≤ total ⌝ }
+    ensures { λ r. ⌜ r ≡ heardOf kept progress total framed judged ⌝ }
+{
+    if judged.refused {
+        return Heard {
+            refusal: Refusal {
+                number: 18,
+                carries: judged.needed as usize,
+            },
+            consumed: 0,
+            kept,
+            tally: no_tally(),
+        };
+    }
+    let classified = judged.classified;
+    let track = classified.track;
+    let consumed = framed.consumed;
+    kept.carry_len = total - consumed;
+    kept.carry_start = progress.carry_start;
+    kept.processed_samples = progress.processed_samples;
+    kept.pre_emphasis_prev = progress.pre_emphasis_prev;
+    kept.warming = judged.holds;
+    kept.held = held_after(judged.holds, framed.frames);
+    kept.track = track;
+    Heard {
+        refusal: Refusal {
+            number: 0,
+            carries: 0,
+        },
+        consumed,
+        kept,
+        tally: Tally {
+            frames: classified.frames,
+            loud: classified.loud,
+            quiet: classified.quiet,
+            noise_floor: classified.track.noise_floor,
+            rows: judged.needed as usize,
+        },
+    }
+}
+
+// A block heard, or with `finish` the stream's end, by a state's numbers and its arrays as they are lent. The values and the energies stay in the slices lent for them: the new carry starts at `consumed` among the values, the energies held stand first.
+pub fn hear<'a>(
+    kept: Kept,
+    window: &'a [f32],
+    carry: &'a [f32],
+    warmup: &'a [f32],
+    samples: &[f32],
+    finish: bool,
+    values: &mut [f32],
+    energies: &mut [f32],
+    rows: &mut [u64],
+) -> Heard
+    requires { ⌜ soundOf (wholeOf kept (now window) (now carry) (now warmup)) ≡ true ⌝ }
+    requires { ⌜ (length (now window) ≡ 2048) × (length (now carry) ≡ 2048) × (length (now warmup) ≡ 300) × (length (now values) ≡ 3072) × (length (now energies) ≡ 1024) ⌝ }
+    requires { ⌜ (length (now samples) ≤ 1024) × (kept .«processed_samples» + length (now samples) ≤ 2 ^ 40) ⌝ }
+    ensures { λ r. ⌜ ranOf finish (wholeOf kept (now (window .entry)) (now (carry .entry)) (now (warmup .entry))) (now (samples .entry)) (length (now (rows .entry))) ≡ settledOf r (now (values .exit)) (now (energies .exit)) (wholeOf kept (now (window .entry)) (now (carry .entry)) (now (warmup .entry))) ⌝ }
+    ensures { λ r. ⌜ (r .kept ≡ keptOf (ranOf finish (wholeOf kept (now (window .entry)) (now (carry .entry)) (now (warmup .entry))) (now (samples .entry)) (length (now (rows .entry))) .detector)) × (r .kept .«carry_start» ≡ kept .«carry_start» + r .consumed) ⌝ }
+    ensures { λ r. ⌜ (r .refusal .number ≡ 0 → (r .consumed + r .kept .«carry_len» ≤ 3072) × (r .kept .«carry_len» ≤ 2048) × (r .kept .held ≤ 300)) ⌝ }
+    ensures { λ _. ⌜ now (rows .exit) ≡ writtenOf finish (wholeOf kept (now (window .entry)) (now (carry .entry)) (now (warmup .entry))) (now (samples .entry)) (now (rows .entry)) ⌝ }
+{
+    let coeff = vad_frames::coefficient(
+        kept.rules.config.has_pre_emphasis,
+        kept.rules.config.pre_emphasis,
+    );
+    let last = gather(
+        carry,
+        kept.carry_len,
+        coeff,
+        kept.pre_emphasis_prev,
+        samples,
+        values,
+    );
+    let total = kept.carry_len + samples.len();
+    let held = waiting(kept);
+    let framed = measure(
+        window,
+        kept.rules.lengths.frame_length,
+        kept.rules.lengths.hop_length,
+        warmup,
+        held,
+        &values[0..total],
+        finish,
+        energies,
+    );
+    let frames = framed.frames;
+    let processed_samples = kept.processed_samples + samples.len() as u64;
+    let judged = judge(kept, processed_samples, &energies[0..frames], finish, rows);
+    concluded(
+        kept,
+        Progress {
+            processed_samples,
+            carry_start: kept.carry_start + framed.consumed as u64,
+            pre_emphasis_prev: last,
+        },
+        total,
+        framed,
+        judged,
+    )
+}
+
+// The state after a call that was not refused, in place: its arrays are not copied.
+fn joined(mut detector: VadDetector, kept: Kept, carry: &[f32], held: &[f32]) -> VadDetector
+    requires { ⌜ (detector .rules .lengths .«frame_length» ≤ 2048) × (length (now carry) ≤ 2048) × (length (now held) ≤ 300) ⌝ }
+    ensures { λ r. ⌜ r ≡ joinedOf detector kept (now (carry .entry)) (now (held .entry)) ⌝ }
+{
+    let rules = kept.rules;
+    let track = kept.track;
+    let frame_length = detector.rules.lengths.frame_length;
+    clear_past(&mut detector.window, frame_length);
+    fill(&mut detector.carry, carry);
+    fill_warmup(&mut detector.warmup, held);
+    detector.rules = rules;
+    detector.carry_len = kept.carry_len;
+    detector.carry_start = kept.carry_start;
+    detector.processed_samples = kept.processed_samples;
+    detector.pre_emphasis_prev = kept.pre_emphasis_prev;
+    detector.warming = kept.warming;
+    detector.held = kept.held;
+    detector.track = track;
+    detector
+}
+
+// The answer, from what was heard and the slices that it was heard in.
+fn settled(heard: Heard, detector: VadDetector, values: &[f32], energies: &[f32]) -> Detected
+    requires { ⌜ (detector .rules .lengths .«frame_length» ≤ 2048) × (length (now values) ≡ 3072) × (length (now energies) ≡ 1024) ⌝ }
+    requires { ⌜ (heard .refusal .number ≡ 0 → (heard .consumed + heard .kept .«carry_len» ≤ 3072) × (heard .kept .«carry_len» ≤ 2048) × (heard .kept .held ≤ 300)) ⌝ }
+    ensures { λ r. ⌜ r ≡ settledOf heard (now (values .entry)) (now (energies .entry)) detector ⌝ }
+{
+    let refusal = heard.refusal;
+    let kept = heard.kept;
+    let tally = heard.tally;
+    if refusal.number != 0 {
+        return Detected {
+            refusal,
+            detector,
+            tally,
+        };
+    }
+    let consumed = heard.consumed;
+    let end = consumed + kept.carry_len;
+    let held = kept.held;
+    Detected {
+        refusal,
+        detector: joined(detector, kept, &values[consumed..end], &energies[0..held]),
+        tally,
+    }
+}
+
+// The same of a state that is given whole. Its arrays are lent here: a callee that took the state and lent them would copy them.
 pub fn run(detector: VadDetector, samples: &[f32], finish: bool, rows: &mut [u64]) -> Detected
     requires { ⌜ soundOf detector ≡ true ⌝ }
     requires { ⌜ (length (now samples) ≤ 1024) × (detector .«processed_samples» + length (now samples) ≤ 2 ^ 40) ⌝ }
     ensures { λ r. ⌜ r ≡ ranOf finish detector (now (samples .entry)) (length (now (rows .entry))) ⌝ }
     ensures { λ _. ⌜ now (rows .exit) ≡ writtenOf finish detector (now (samples .entry)) (now (rows .entry)) ⌝ }
 {
-    let numbers = kept_of(detector);
     let mut values = [0.0; 3072];
-    let coeff = vad_frames::coefficient(
-        detector.rules.config.has_pre_emphasis,
-        detector.rules.config.pre_emphasis,
-    );
-    let last = gather(
-        &detector.carry,
-        detector.carry_len,
-        coeff,
-        detector.pre_emphasis_prev,
-        samples,
-        &mut values,
-    );
-    let total = detector.carry_len + samples.len();
     let mut energies = [0.0; 1024];
-    let held = waiting(numbers);
-    let framed = measure(
-        &detector.window,
-        detector.rules.lengths.frame_length,
-        detector.rules.lengths.hop_length,
-        &detector.warmup,
-        held,
-        &values[0..total],
-        finish,
-        &mut energies,
-    );
-    let frames = framed.frames;
-    let consumed = framed.consumed;
-    let processed_samples = detector.processed_samples + samples.len() as u64;
-    let carry_start = detector.carry_start + consumed as u64;
-    let judged = judge(
-        numbers,
-        processed_samples,
-        &energies[0..frames],
-        finish,
-        rows,
-    );
-    if judged.refused {
-        return refused(18, judged.needed as usize, detector);
-    }
-    let classified = judged.classified;
-    accepted(
+    settled(
+        hear(
+            kept_of(detector),
+            &detector.window,
+            &detector.carry,
+            &detector.warmup,
+            samples,
+            finish,
+            &mut values,
+            &mut energies,
+            rows,
+        ),
         detector,
-        Progress {
-            processed_samples,
-            carry_start,
-            pre_emphasis_prev: last,
-        },
-        judged.holds,
-        &values[consumed..total],
-        only_if(judged.holds, &energies[0..frames]),
-        classified,
-        judged.needed as usize,
+        &values,
+        &energies,
     )
 }

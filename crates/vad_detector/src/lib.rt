@@ -1,11 +1,11 @@
 // The streaming voice activity detector: the Rust's src/vad/detector.rs. The state is passed in and returned, rows are lent.
 ghost use mathlib.Core.Path.{_≡_};
 ghost use mathlib.Core.Bool.{true};
-ghost use Prim.Native.Nat.{_≤_};
+ghost use Prim.Native.Nat.{_≤_, _^_};
 ghost use lib.ListN.{length};
 ghost use Rattle.vad_state.specs.State.{soundOf};
 ghost use Rattle.vad_detector.specs.Opening.{handedOver, openRefusal, freshTrack, freshOf, zeroRules, nothingOpen, openOf, resetTo, resetOf};
-ghost use Rattle.vad_detector.specs.Entries.{checkOf, detectOf, detectRows, flushOf, flushRows};
+ghost use Rattle.vad_detector.specs.Entries.{blockRefusal, checkOf, detectOf, detectRows, flushOf, flushRows};
 ghost use Rattle.vad_detector.specs.Readings.{readOf, undecidedRead, analyzedRead, rowsRead, talkRead, floorRead, openStart, segmentRead};
 use vad_call::Detected;
 use vad_call::Refusal;
@@ -224,16 +224,11 @@ pub fn reset(detector: VadDetector, stream_start_time: u64) -> Opened
     }
 }
 
-// 19, 15, 16 and 17, in this order.
-fn check(detector: VadDetector, samples: &[f32]) -> Refusal
-    ensures { λ r. ⌜ r ≡ checkOf detector (now (samples .entry)) ⌝ }
+// 15, 16 and 17, in this order. The state is not looked at, so that it can stand anywhere.
+pub fn block_refusal(received: u64, samples: &[f32]) -> Refusal
+    requires { ⌜ received ≤ 2 ^ 40 ⌝ }
+    ensures { λ r. ⌜ r ≡ blockRefusal received (now (samples .entry)) ⌝ }
 {
-    if !sound(detector) {
-        return Refusal {
-            number: 19,
-            carries: 0,
-        };
-    }
     if 1024 < samples.len() {
         return Refusal {
             number: 15,
@@ -247,7 +242,7 @@ fn check(detector: VadDetector, samples: &[f32]) -> Refusal
             carries: place,
         };
     }
-    if 0x100_0000_0000 < detector.processed_samples + samples.len() as u64 {
+    if 0x100_0000_0000 < received + samples.len() as u64 {
         return Refusal {
             number: 17,
             carries: 0,
@@ -257,6 +252,19 @@ fn check(detector: VadDetector, samples: &[f32]) -> Refusal
         number: 0,
         carries: 0,
     }
+}
+
+// 19 before them.
+fn check(detector: VadDetector, samples: &[f32]) -> Refusal
+    ensures { λ r. ⌜ r ≡ checkOf detector (now (samples .entry)) ⌝ }
+{
+    if !sound(detector) {
+        return Refusal {
+            number: 19,
+            carries: 0,
+        };
+    }
+    block_refusal(detector.processed_samples, samples)
 }
 
 // Hears the next block of the stream. Blocks can be any size up to 1,024: what does not fill a frame yet waits for the next call, and a segment that is still open is reported once it closes.

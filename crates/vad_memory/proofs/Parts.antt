@@ -1,6 +1,6 @@
 -- What the tests of the memory say, and its parts as the code reads them. Assumes nothing.
-use mathlib.Core.Path.{_≡_, refl, ap, _∙_}
-use mathlib.Core.Bool.{Bool, true, _&&_}
+use mathlib.Core.Path.{_≡_, refl, sym, ap, _∙_}
+use mathlib.Core.Bool.{true, _&&_}
 use mathlib.Core.List.{List, [], _∷_, _++_, append-nil}
 use Prim.Native.Nat.{ℕ, zero, suc, _+_, _-_, _≤_, _<_}
 use native.Mathlib.Omega.{arith}
@@ -14,7 +14,8 @@ use Rattle.vad_config.specs.Domain.{zero32}
 use Rattle.vad_config.specs.declared.VadConfig.{VadConfig}
 use Rattle.vad_segments.specs.declared.Rules.{Rules}
 use Rattle.vad_segments.specs.declared.Track.{Track}
-use Rattle.vad_state.specs.declared.VadDetector.{VadDetector}
+use Rattle.vad_state.specs.declared.Kept.{Kept}
+use Rattle.vad_state.specs.Kept.{keptOf, wholeOf}
 use Rattle.vad_state.specs.Arrays.{filledOf}
 use Rattle.vad_state.proofs.Fills.{put-filled}
 use Rattle.vad_memory.specs.DetectorState.{wordAt, floatAt, flagAt, configAt, rulesAt, trackAt, detectorAt, longEnough, readable}
@@ -135,32 +136,33 @@ config-is ns fs room =
       inside fs 4402 (omega arith),
     ) refl
 
-pub detector-is : (ns : List ℕ) (fs : List Float) (r : Rules) (w c h : List Float) (len start received : ℕ) (prev : Float) (warming : Bool) (held : ℕ) (t : Track)
-    → r ≡ rulesAt ns fs
-    → w ≡ take 2048 fs
-    → c ≡ take 2048 (drop 2048 fs)
-    → len ≡ wordAt ns 11
-    → start ≡ wordAt ns 12
-    → received ≡ wordAt ns 13
-    → prev ≡ floatAt fs 4404
-    → warming ≡ flagAt ns 14
-    → h ≡ take 300 (drop 4096 fs)
-    → held ≡ wordAt ns 15
-    → t ≡ trackAt ns fs
-    → _≡_ {A = VadDetector}
+-- the numbers beside them
+pub kept-is : (ns : List ℕ) (fs : List Float) (r : Rules) (t : Track) → 4407 ≤ length fs → r ≡ rulesAt ns fs → t ≡ trackAt ns fs
+    → _≡_ {A = Kept}
     (record {
       rules = r;
-      window = w;
-      carry = c;
-      «carry_len» = len;
-      «carry_start» = start;
-      «processed_samples» = received;
-      «pre_emphasis_prev» = prev;
-      warming = warming;
-      warmup = h;
-      held = held;
+      «carry_len» = wordAt ns 11;
+      «carry_start» = wordAt ns 12;
+      «processed_samples» = wordAt ns 13;
+      «pre_emphasis_prev» = getD fs 4404 nan;
+      warming = flagAt ns 14;
+      held = wordAt ns 15;
       track = t;
     })
-    (detectorAt ns fs)
-unfolding detectorAt
-detector-is ns fs r w c h len start received prev warming held t er ew ec el es ep ex em eh ed et = rw (er, ew, ec, el, es, ep, ex, em, eh, ed, et) refl
+    (keptOf (detectorAt ns fs))
+unfolding detectorAt keptOf
+kept-is ns fs r t room er et = rw (inside fs 4404 (omega arith), er, et) refl
+
+-- the state that stands in memory, by its numbers and its arrays
+pub detector-whole : (ns : List ℕ) (fs : List Float)
+    → detectorAt ns fs ≡ wholeOf (keptOf (detectorAt ns fs)) (take 2048 fs) (take 2048 (drop 2048 fs)) (take 300 (drop 4096 fs))
+unfolding detectorAt keptOf wholeOf
+detector-whole ns fs = refl
+
+pub detector-is : (ns : List ℕ) (fs : List Float) (k : Kept) (w c h : List Float)
+    → k ≡ keptOf (detectorAt ns fs)
+    → w ≡ take 2048 fs
+    → c ≡ take 2048 (drop 2048 fs)
+    → h ≡ take 300 (drop 4096 fs)
+    → wholeOf k w c h ≡ detectorAt ns fs
+detector-is ns fs k w c h ek ew ec eh = ap (λ (x : Kept). wholeOf x w c h) ek ∙ rw (ew, ec, eh) (sym (detector-whole ns fs))

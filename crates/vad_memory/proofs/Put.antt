@@ -6,12 +6,14 @@ use Prim.Native.Nat.{ℕ, suc, _+_, _-_, _≤_, _<_}
 use native.Mathlib.Numerals.{add-one}
 use native.Mathlib.Omega.{arith}
 use lib.ListN.{length, take, drop, getD, set, drop-of-length-le, length-append, length-drop}
-use lib.Seq.{sets, sets-eq, drop-cons, drop-drop, take-length, drop-length}
+use lib.Seq.{sets, sets-eq, drop-cons, drop-drop, take-at, drop-at, take-length, drop-length}
 use lib.Ieee.{Float}
 use mir.Val.{boolByte}
 use Rattle.lists.specs.Stores.{sets-cons, sets-all, sets-append}
 use Rattle.vad_segments.specs.declared.ActiveSegment.{ActiveSegment}
 use Rattle.vad_segments.specs.declared.ActiveSegment.the-variants.{Closed, Open}
+use Rattle.vad_state.specs.Kept.{keptOf, wholeOf, hollowOf}
+use Rattle.vad_state.specs.declared.Kept.{Kept}
 use Rattle.vad_state.specs.declared.VadDetector.{VadDetector}
 use Rattle.vad_call.specs.declared.Tally.{Tally}
 use Rattle.vad_memory.specs.DetectorState.{flagWord, ruleNumbers, activeNumbers, trackNumbers, tallyNumbers, numbersOf, activeEnergy, singlesOf, floatsOf, numbersWritten, floatsWritten}
@@ -50,18 +52,24 @@ module _ (to xs last : List Float) (at : ℕ) where
       ∙ sym (sets-eq xs to at h)
 
 -- one part after another
-pub four-parts : (to a b c d x y z last : List Float) → length a ≡ 2048 → length b ≡ 2048 → length c ≡ 300
-    → x ≡ sets to 0 a → y ≡ sets x 2048 b → z ≡ sets y 4096 c → last ≡ sets z 4396 d
-    → last ≡ sets to 0 (a ++ (b ++ (c ++ d)))
-four-parts to a b c d x y z last la lb lc ex ey ez el =
+pub three-parts : (to a b c x y last : List Float) → length a ≡ 2048 → length b ≡ 2048 → length c ≡ 300 → 4396 ≤ length to
+    → x ≡ sets to 0 a → y ≡ sets x 2048 b → last ≡ sets y 4096 c
+    → last ≡ a ++ (b ++ (c ++ drop 4396 to))
+three-parts to a b c x y last la lb lc room ex ey el =
     let ab : 0 + length a ≡ 2048 = omega arith in
     let bc : 2048 + length b ≡ 4096 = omega arith in
-    let cd : 4096 + length c ≡ 4396 = omega arith in
-    let put : last ≡ sets (sets (sets (sets to 0 a) 2048 b) 4096 c) 4396 d = el ∙ ap (λ (l : List Float). sets l 4396 d) (ez ∙ ap (λ (l : List Float). sets l 4096 c) (ey ∙ ap (λ (l : List Float). sets l 2048 b) ex)) in
-    let one = sets-append to 0 a (b ++ (c ++ d)) ∙ ap (λ (k : ℕ). sets (sets to 0 a) k (b ++ (c ++ d))) ab in
-    let two = sets-append (sets to 0 a) 2048 b (c ++ d) ∙ ap (λ (k : ℕ). sets (sets (sets to 0 a) 2048 b) k (c ++ d)) bc in
-    let three = sets-append (sets (sets to 0 a) 2048 b) 4096 c d ∙ ap (λ (k : ℕ). sets (sets (sets (sets to 0 a) 2048 b) 4096 c) k d) cd in
-    put ∙ sym (one ∙ two ∙ three)
+    let inner = length-append b c in
+    let outer = length-append a (b ++ c) in
+    let count : length (a ++ (b ++ c)) ≡ 4396 = omega arith in
+    let put : last ≡ sets (sets (sets to 0 a) 2048 b) 4096 c = el ∙ ap (λ (l : List Float). sets l 4096 c) (ey ∙ ap (λ (l : List Float). sets l 2048 b) ex) in
+    let one = sets-append to 0 a (b ++ c) ∙ ap (λ (k : ℕ). sets (sets to 0 a) k (b ++ c)) ab in
+    let two = sets-append (sets to 0 a) 2048 b c ∙ ap (λ (k : ℕ). sets (sets (sets to 0 a) 2048 b) k c) bc in
+    put
+    ∙ sym (one ∙ two)
+    ∙ sets-all to (a ++ (b ++ c)) (omega arith)
+    ∙ ap (λ (k : ℕ). (a ++ (b ++ c)) ++ drop k to) count
+    ∙ append-assoc a (b ++ c) (drop 4396 to)
+    ∙ ap (λ (ys : List Float). a ++ ys) (append-assoc b c (drop 4396 to))
 
 -- ---- the whole state
 
@@ -75,26 +83,26 @@ next : {x y : ℕ} {xs ys : List ℕ} → x ≡ y → xs ≡ ys → x ∷ xs ≡
 next h k = rw (h, k)
 
 -- the numbers one by one, as the code writes them
-pub numbers-are : (d : VadDetector) (t : Tally) (flag start last score frames silence : ℕ) → flag ∷ start ∷ last ∷ score ∷ frames ∷ silence ∷ [] ≡ activeNumbers (d .track .«active_segment»)
-    → d .rules .config .«sample_rate»
-    ∷ d .rules .config .«frame_duration»
-    ∷ boolByte (d .rules .config .«has_pre_emphasis»)
-    ∷ d .rules .config .«hangover_frames»
-    ∷ d .rules .config .«speech_padding»
-    ∷ d .rules .config .«min_speech_frames»
-    ∷ d .rules .config .«stream_start_time»
-    ∷ d .rules .lengths .«frame_length»
-    ∷ d .rules .lengths .«hop_length»
-    ∷ d .rules .lengths .«warmup_frames»
-    ∷ d .rules .lengths .«padding_samples»
-    ∷ d .«carry_len»
-    ∷ d .«carry_start»
-    ∷ d .«processed_samples»
-    ∷ boolByte (d .warming)
-    ∷ d .held
-    ∷ d .track .«last_segment_end»
-    ∷ d .track .«rows_reported»
-    ∷ d .track .«talk_samples»
+pub numbers-are : (k : Kept) (t : Tally) (flag start last score frames silence : ℕ) → flag ∷ start ∷ last ∷ score ∷ frames ∷ silence ∷ [] ≡ activeNumbers (k .track .«active_segment»)
+    → k .rules .config .«sample_rate»
+    ∷ k .rules .config .«frame_duration»
+    ∷ boolByte (k .rules .config .«has_pre_emphasis»)
+    ∷ k .rules .config .«hangover_frames»
+    ∷ k .rules .config .«speech_padding»
+    ∷ k .rules .config .«min_speech_frames»
+    ∷ k .rules .config .«stream_start_time»
+    ∷ k .rules .lengths .«frame_length»
+    ∷ k .rules .lengths .«hop_length»
+    ∷ k .rules .lengths .«warmup_frames»
+    ∷ k .rules .lengths .«padding_samples»
+    ∷ k .«carry_len»
+    ∷ k .«carry_start»
+    ∷ k .«processed_samples»
+    ∷ boolByte (k .warming)
+    ∷ k .held
+    ∷ k .track .«last_segment_end»
+    ∷ k .track .«rows_reported»
+    ∷ k .track .«talk_samples»
     ∷ flag
     ∷ start
     ∷ last
@@ -106,35 +114,35 @@ pub numbers-are : (d : VadDetector) (t : Tally) (flag start last score frames si
     ∷ t .quiet
     ∷ t .rows
     ∷ []
-    ≡ numbersOf d t
-unfolding numbersOf ruleNumbers trackNumbers tallyNumbers
-numbers-are d t flag start last score frames silence e =
+    ≡ numbersOf (hollowOf k) t
+unfolding numbersOf ruleNumbers trackNumbers tallyNumbers hollowOf wholeOf
+numbers-are k t flag start last score frames silence e =
     next refl (
     next refl (
-    next (flag-byte (d .rules .config .«has_pre_emphasis»)) (
+    next (flag-byte (k .rules .config .«has_pre_emphasis»)) (
     next refl (next refl (next refl (next refl (next refl (next refl (next refl (next refl (
     next refl (next refl (next refl (
-    next (flag-byte (d .warming)) (
+    next (flag-byte (k .warming)) (
     next refl (
     next refl (next refl (next refl (
     ap (λ (xs : List ℕ). xs ++ tallyNumbers t) e)))))))))))))))))))
 
-pub singles-are : (d : VadDetector) (energy : Float) → energy ≡ activeEnergy (d .track .«active_segment»)
-    → d .rules .config .«frame_overlap»
-    ∷ d .rules .config .«pre_emphasis»
-    ∷ d .rules .config .«activation_ratio»
-    ∷ d .rules .config .«release_ratio»
-    ∷ d .rules .config .«min_speech_energy»
-    ∷ d .rules .config .«noise_smoothing»
-    ∷ d .rules .config .«energy_floor»
-    ∷ d .rules .«speech_floor_rise»
-    ∷ d .«pre_emphasis_prev»
-    ∷ d .track .«noise_floor»
+pub singles-are : (k : Kept) (energy : Float) → energy ≡ activeEnergy (k .track .«active_segment»)
+    → k .rules .config .«frame_overlap»
+    ∷ k .rules .config .«pre_emphasis»
+    ∷ k .rules .config .«activation_ratio»
+    ∷ k .rules .config .«release_ratio»
+    ∷ k .rules .config .«min_speech_energy»
+    ∷ k .rules .config .«noise_smoothing»
+    ∷ k .rules .config .«energy_floor»
+    ∷ k .rules .«speech_floor_rise»
+    ∷ k .«pre_emphasis_prev»
+    ∷ k .track .«noise_floor»
     ∷ energy
     ∷ []
-    ≡ singlesOf d
-unfolding singlesOf
-singles-are d energy e = rw e refl
+    ≡ singlesOf (hollowOf k)
+unfolding singlesOf hollowOf wholeOf
+singles-are k energy e = rw e refl
 
 pub numbers-count : (d : VadDetector) (t : Tally) → length (numbersOf d t) ≡ 29
 unfolding numbersOf ruleNumbers trackNumbers tallyNumbers
@@ -149,17 +157,51 @@ numbers-put d t ns h =
     let count = numbers-count d t in
     sets-all ns (numbersOf d t) (omega arith) ∙ ap (λ (k : ℕ). numbersOf d t ++ drop k ns) count
 
+singles-count : (d : VadDetector) → length (singlesOf d) ≡ 11
+unfolding singlesOf
+singles-count d = refl
+
 pub floats-count : (d : VadDetector) → length (d .window) ≡ 2048 → length (d .carry) ≡ 2048 → length (d .warmup) ≡ 300 → length (floatsOf d) ≡ 4407
-unfolding floatsOf singlesOf
+unfolding floatsOf
 floats-count d w c h =
+    let eleven = singles-count d in
     let a = length-append (d .window) (d .carry ++ (d .warmup ++ singlesOf d)) in
     let b = length-append (d .carry) (d .warmup ++ singlesOf d) in
     let e = length-append (d .warmup) (singlesOf d) in
     omega arith
 
-pub floats-put : (d : VadDetector) (fs : List Float) → length (d .window) ≡ 2048 → length (d .carry) ≡ 2048 → length (d .warmup) ≡ 300 → 4407 ≤ length fs
-    → sets fs 0 (d .window ++ (d .carry ++ (d .warmup ++ singlesOf d))) ≡ floatsWritten d fs
+-- the single floats, put behind the arrays of a state, complete it
+pub singles-put : (d : VadDetector) (fs : List Float) → length (d .window) ≡ 2048 → length (d .carry) ≡ 2048 → length (d .warmup) ≡ 300 → 4407 ≤ length fs
+    → sets (d .window ++ (d .carry ++ (d .warmup ++ drop 4396 fs))) 4396 (singlesOf d) ≡ floatsWritten d fs
 unfolding floatsWritten floatsOf
-floats-put d fs w c h room =
-    let count = floats-count d w c h in
-    sets-all fs (floatsOf d) (omega arith) ∙ ap (λ (k : ℕ). floatsOf d ++ drop k fs) count
+singles-put d fs w c h room =
+    let arrays = d .window ++ (d .carry ++ d .warmup) in
+    let rest = drop 4396 fs in
+    let singles = singlesOf d in
+    let eleven = singles-count d in
+    let inner = length-append (d .carry) (d .warmup) in
+    let outer = length-append (d .window) (d .carry ++ d .warmup) in
+    let count : length arrays ≡ 4396 = omega arith in
+    let left = length-drop 4396 fs in
+    let all = length-append arrays rest in
+    let grouped : (ys : List Float) → d .window ++ (d .carry ++ (d .warmup ++ ys)) ≡ arrays ++ ys = (λ ys. sym (append-assoc (d .window) (d .carry ++ d .warmup) ys ∙ ap (λ (zs : List Float). d .window ++ zs) (append-assoc (d .carry) (d .warmup) ys))) in
+    let far : drop (4396 + length singles) (arrays ++ rest) ≡ drop 4407 fs = ap (λ (k : ℕ). drop (4396 + k) (arrays ++ rest)) eleven ∙ sym (drop-drop 11 4396 (arrays ++ rest)) ∙ ap (drop 11) (drop-at arrays rest 4396 count) ∙ drop-drop 11 4396 fs in
+    ap (λ (ys : List Float). sets ys 4396 singles) (grouped rest)
+    ∙ sets-eq singles (arrays ++ rest) 4396 (omega arith)
+    ∙ ap (λ (ys : List Float). (ys ++ singles) ++ drop (4396 + length singles) (arrays ++ rest)) (take-at arrays rest 4396 count)
+    ∙ ap (λ (ys : List Float). (arrays ++ singles) ++ ys) far
+    ∙ ap (λ (ys : List Float). ys ++ drop 4407 fs) (sym (grouped singles))
+
+-- ---- what looks at no array is the same of a state's numbers alone
+module _ (d : VadDetector) where
+  pub numbers-hollow : (t : Tally) → numbersOf (hollowOf (keptOf d)) t ≡ numbersOf d t
+  unfolding numbersOf hollowOf wholeOf keptOf
+  numbers-hollow t = refl
+
+  pub singles-hollow : singlesOf (hollowOf (keptOf d)) ≡ singlesOf d
+  unfolding singlesOf hollowOf wholeOf keptOf
+  singles-hollow = refl
+
+  pub written-hollow : (t : Tally) (ns : List ℕ) → numbersWritten (hollowOf (keptOf d)) t ns ≡ numbersWritten d t ns
+  unfolding numbersWritten
+  written-hollow t ns = ap (λ (xs : List ℕ). xs ++ drop 29 ns) (numbers-hollow t)

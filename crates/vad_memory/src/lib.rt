@@ -5,7 +5,8 @@ ghost use mathlib.Core.List.{[], _∷_, _++_};
 ghost use Prim.Native.Nat.{_+_, _≤_};
 ghost use lib.ListN.{length, take, drop};
 ghost use lib.Seq.{sets};
-ghost use Rattle.vad_memory.specs.DetectorState.{wordAt, floatAt, flagAt, configAt, lengthsAt, rulesAt, segmentAt, activeAt, trackAt, detectorAt, longEnough, readable, activeNumbers, numbersOf, activeEnergy, singlesOf, numbersWritten, floatsWritten};
+ghost use Rattle.vad_state.specs.Kept.{keptOf, hollowOf};
+ghost use Rattle.vad_memory.specs.DetectorState.{wordAt, configAt, lengthsAt, rulesAt, segmentAt, activeAt, trackAt, detectorAt, longEnough, readable, activeNumbers, numbersOf, activeEnergy, singlesOf, numbersWritten, floatsWritten};
 use vad_call::Tally;
 use vad_config::Lengths;
 use vad_config::VadConfig;
@@ -13,9 +14,11 @@ use vad_segments::ActiveSegment;
 use vad_segments::ActiveSegmentState;
 use vad_segments::Rules;
 use vad_segments::Track;
+use vad_state::Kept;
 use vad_state::VadDetector;
 use vad_state::arrays::filled;
 use vad_state::arrays::put;
+use vad_state::kept_of;
 
 pub fn long_enough(numbers: &[u64], floats: &[f32]) -> bool
     ensures { λ r. ⌜ r ≡ longEnough (now (numbers .entry)) (now (floats .entry)) ⌝ }
@@ -151,33 +154,20 @@ fn warmup_at(floats: &[f32]) -> [f32; 300]
     warmup
 }
 
-// What a detector has of its own beside arrays and structs: read apart, since a whole detector that is not yet set is dear to check at each read.
-struct Heard {
-    carry_len: usize,
-    carry_start: u64,
-    processed_samples: u64,
-    pre_emphasis_prev: f32,
-    warming: bool,
-    held: usize,
-}
-
-fn heard_at(numbers: &[u64], floats: &[f32]) -> Heard
-    requires { ⌜ 29 ≤ length (now numbers) ⌝ }
-    requires { ⌜ 4407 ≤ length (now floats) ⌝ }
-    ensures { λ r. ⌜ r .«carry_len» ≡ wordAt (now (numbers .entry)) 11 ⌝ }
-    ensures { λ r. ⌜ r .«carry_start» ≡ wordAt (now (numbers .entry)) 12 ⌝ }
-    ensures { λ r. ⌜ r .«processed_samples» ≡ wordAt (now (numbers .entry)) 13 ⌝ }
-    ensures { λ r. ⌜ r .«pre_emphasis_prev» ≡ floatAt (now (floats .entry)) 4404 ⌝ }
-    ensures { λ r. ⌜ r .warming ≡ flagAt (now (numbers .entry)) 14 ⌝ }
-    ensures { λ r. ⌜ r .held ≡ wordAt (now (numbers .entry)) 15 ⌝ }
+// The numbers alone: the arrays stay where they stand.
+pub fn kept_at(numbers: &[u64], floats: &[f32]) -> Kept
+    requires { ⌜ readable (now numbers) (now floats) ≡ true ⌝ }
+    ensures { λ r. ⌜ r ≡ keptOf (detectorAt (now (numbers .entry)) (now (floats .entry))) ⌝ }
 {
-    Heard {
+    Kept {
+        rules: rules_at(numbers, floats),
         carry_len: numbers[11] as usize,
         carry_start: numbers[12],
         processed_samples: numbers[13],
         pre_emphasis_prev: floats[4404],
         warming: numbers[14] == 1,
         held: numbers[15] as usize,
+        track: track_at(numbers, floats),
     }
 }
 
@@ -185,19 +175,21 @@ pub fn detector_at(numbers: &[u64], floats: &[f32]) -> VadDetector
     requires { ⌜ readable (now numbers) (now floats) ≡ true ⌝ }
     ensures { λ r. ⌜ r ≡ detectorAt (now (numbers .entry)) (now (floats .entry)) ⌝ }
 {
-    let heard = heard_at(numbers, floats);
+    let kept = kept_at(numbers, floats);
+    let rules = kept.rules;
+    let track = kept.track;
     VadDetector {
-        rules: rules_at(numbers, floats),
+        rules,
         window: part_at(floats, 0),
         carry: part_at(floats, 2048),
-        carry_len: heard.carry_len,
-        carry_start: heard.carry_start,
-        processed_samples: heard.processed_samples,
-        pre_emphasis_prev: heard.pre_emphasis_prev,
-        warming: heard.warming,
+        carry_len: kept.carry_len,
+        carry_start: kept.carry_start,
+        processed_samples: kept.processed_samples,
+        pre_emphasis_prev: kept.pre_emphasis_prev,
+        warming: kept.warming,
         warmup: warmup_at(floats),
-        held: heard.held,
-        track: track_at(numbers, floats),
+        held: kept.held,
+        track,
     }
 }
 
@@ -228,36 +220,36 @@ fn segment_of(track: Track) -> Segment
     }
 }
 
-fn numbers_of(detector: VadDetector, tally: Tally) -> [u64; 29]
-    ensures { λ r. ⌜ r ≡ numbersOf detector tally ⌝ }
+fn numbers_of(kept: Kept, tally: Tally) -> [u64; 29]
+    ensures { λ r. ⌜ r ≡ numbersOf (hollowOf kept) tally ⌝ }
 {
-    let kept = segment_of(detector.track);
+    let active = segment_of(kept.track);
     [
-        detector.rules.config.sample_rate as u64,
-        detector.rules.config.frame_duration,
-        detector.rules.config.has_pre_emphasis as u64,
-        detector.rules.config.hangover_frames,
-        detector.rules.config.speech_padding,
-        detector.rules.config.min_speech_frames,
-        detector.rules.config.stream_start_time,
-        detector.rules.lengths.frame_length as u64,
-        detector.rules.lengths.hop_length as u64,
-        detector.rules.lengths.warmup_frames as u64,
-        detector.rules.lengths.padding_samples as u64,
-        detector.carry_len as u64,
-        detector.carry_start,
-        detector.processed_samples,
-        detector.warming as u64,
-        detector.held as u64,
-        detector.track.last_segment_end,
-        detector.track.rows_reported,
-        detector.track.talk_samples,
-        kept.open,
-        kept.segment.start_sample,
-        kept.segment.last_end_sample,
-        kept.segment.score_total,
-        kept.segment.frame_count,
-        kept.segment.silence_run,
+        kept.rules.config.sample_rate as u64,
+        kept.rules.config.frame_duration,
+        kept.rules.config.has_pre_emphasis as u64,
+        kept.rules.config.hangover_frames,
+        kept.rules.config.speech_padding,
+        kept.rules.config.min_speech_frames,
+        kept.rules.config.stream_start_time,
+        kept.rules.lengths.frame_length as u64,
+        kept.rules.lengths.hop_length as u64,
+        kept.rules.lengths.warmup_frames as u64,
+        kept.rules.lengths.padding_samples as u64,
+        kept.carry_len as u64,
+        kept.carry_start,
+        kept.processed_samples,
+        kept.warming as u64,
+        kept.held as u64,
+        kept.track.last_segment_end,
+        kept.track.rows_reported,
+        kept.track.talk_samples,
+        active.open,
+        active.segment.start_sample,
+        active.segment.last_end_sample,
+        active.segment.score_total,
+        active.segment.frame_count,
+        active.segment.silence_run,
         tally.frames as u64,
         tally.loud as u64,
         tally.quiet as u64,
@@ -265,22 +257,22 @@ fn numbers_of(detector: VadDetector, tally: Tally) -> [u64; 29]
     ]
 }
 
-fn singles_of(detector: VadDetector) -> [f32; 11]
-    ensures { λ r. ⌜ r ≡ singlesOf detector ⌝ }
+fn singles_of(kept: Kept) -> [f32; 11]
+    ensures { λ r. ⌜ r ≡ singlesOf (hollowOf kept) ⌝ }
 {
-    let kept = segment_of(detector.track);
+    let active = segment_of(kept.track);
     [
-        detector.rules.config.frame_overlap,
-        detector.rules.config.pre_emphasis,
-        detector.rules.config.activation_ratio,
-        detector.rules.config.release_ratio,
-        detector.rules.config.min_speech_energy,
-        detector.rules.config.noise_smoothing,
-        detector.rules.config.energy_floor,
-        detector.rules.speech_floor_rise,
-        detector.pre_emphasis_prev,
-        detector.track.noise_floor,
-        kept.segment.energy_sum,
+        kept.rules.config.frame_overlap,
+        kept.rules.config.pre_emphasis,
+        kept.rules.config.activation_ratio,
+        kept.rules.config.release_ratio,
+        kept.rules.config.min_speech_energy,
+        kept.rules.config.noise_smoothing,
+        kept.rules.config.energy_floor,
+        kept.rules.speech_floor_rise,
+        kept.pre_emphasis_prev,
+        kept.track.noise_floor,
+        active.segment.energy_sum,
     ]
 }
 
@@ -307,29 +299,31 @@ fn put_parts<'a>(
     window: &'a [f32; 2048],
     carry: &'a [f32; 2048],
     warmup: &'a [f32; 300],
-    singles: &[f32; 11],
 )
     requires { ⌜ 4407 ≤ length (now to) ⌝ }
-    ensures { λ _. ⌜ now (to .exit) ≡ sets (now (to .entry)) 0 (now (window .entry) ++ (now (carry .entry) ++ (now (warmup .entry) ++ now (singles .entry)))) ⌝ }
+    ensures { λ _. ⌜ now (to .exit) ≡ now (window .entry) ++ (now (carry .entry) ++ (now (warmup .entry) ++ drop 4396 (now (to .entry)))) ⌝ }
 {
     put_floats(to, 0, window);
     put_floats(to, 2048, carry);
     put_floats(to, 4096, warmup);
-    put_floats(to, 4396, singles);
 }
 
 // Apart from `put_detector`, since a state that is lent in part is copied for each call that takes it whole.
-fn put_arrays(to: &mut [f32], detector: VadDetector, singles: &[f32; 11])
+fn put_arrays(to: &mut [f32], detector: VadDetector)
     requires { ⌜ 4407 ≤ length (now to) ⌝ }
-    ensures { λ _. ⌜ now (to .exit) ≡ sets (now (to .entry)) 0 (detector .window ++ (detector .carry ++ (detector .warmup ++ now (singles .entry)))) ⌝ }
+    ensures { λ _. ⌜ now (to .exit) ≡ detector .window ++ (detector .carry ++ (detector .warmup ++ drop 4396 (now (to .entry)))) ⌝ }
 {
-    put_parts(
-        to,
-        &detector.window,
-        &detector.carry,
-        &detector.warmup,
-        singles,
-    );
+    put_parts(to, &detector.window, &detector.carry, &detector.warmup);
+}
+
+// The same way back: what stands in the places of the arrays stays.
+pub fn put_kept(numbers: &mut [u64], floats: &mut [f32], kept: Kept, tally: Tally)
+    requires { ⌜ longEnough (now numbers) (now floats) ≡ true ⌝ }
+    ensures { λ _. ⌜ now (numbers .exit) ≡ numbersWritten (hollowOf kept) tally (now (numbers .entry)) ⌝ }
+    ensures { λ _. ⌜ now (floats .exit) ≡ sets (now (floats .entry)) 4396 (singlesOf (hollowOf kept)) ⌝ }
+{
+    put_numbers(numbers, &numbers_of(kept, tally));
+    put_floats(floats, 4396, &singles_of(kept));
 }
 
 pub fn put_detector(numbers: &mut [u64], floats: &mut [f32], detector: VadDetector, tally: Tally)
@@ -337,6 +331,6 @@ pub fn put_detector(numbers: &mut [u64], floats: &mut [f32], detector: VadDetect
     ensures { λ _. ⌜ now (numbers .exit) ≡ numbersWritten detector tally (now (numbers .entry)) ⌝ }
     ensures { λ _. ⌜ now (floats .exit) ≡ floatsWritten detector (now (floats .entry)) ⌝ }
 {
-    put_numbers(numbers, &numbers_of(detector, tally));
-    put_arrays(floats, detector, &singles_of(detector));
+    put_arrays(floats, detector);
+    put_kept(numbers, floats, kept_of(detector), tally);
 }

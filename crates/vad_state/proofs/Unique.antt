@@ -3,7 +3,7 @@ use mathlib.Core.Path.{_≡_}
 use mathlib.Core.Bool.{Bool}
 use mathlib.Core.List.{List}
 use Prim.Native.Nat.{ℕ}
-use lib.ListN.{take}
+use lib.ListN.{length, take}
 use lib.Seq.{sets}
 use lib.Ieee.{Float}
 use Rattle.float.proofs.Unique.{only}
@@ -25,7 +25,7 @@ sound-lent-unique k window carry warmup r q = only
 pub handed-in-unique : (window : List Float) (rise : Float) (r q : Bool) → r ≡ handedIn window rise → q ≡ handedIn window rise → r ≡ q
 handed-in-unique window rise r q = only
 
--- of `filled` and the two that fill in place
+-- of `filled` and the three that fill in place
 pub filled-unique : (n : ℕ) (xs r q : List Float) → r ≡ filledOf n xs → q ≡ filledOf n xs → r ≡ q
 filled-unique n xs r q = only
 
@@ -34,6 +34,9 @@ put-unique to xs r q = only
 
 pub put-first-unique : (to xs r q : List Float) (n : ℕ) → r ≡ sets to 0 (take n xs) → q ≡ sets to 0 (take n xs) → r ≡ q
 put-first-unique to xs r q n = only
+
+pub clear-unique : (to r q : List Float) (from : ℕ) → r ≡ filledOf (length to) (take from to) → q ≡ filledOf (length to) (take from to) → r ≡ q
+clear-unique to r q from = only
 
 pub clear-past-unique : (n : ℕ) (xs r q : List Float) → r ≡ filledOf 2048 (take n xs) → q ≡ filledOf 2048 (take n xs) → r ≡ q
 clear-past-unique n xs r q = only

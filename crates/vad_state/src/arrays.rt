@@ -26,7 +26,7 @@ pub fn put_first(to: &mut [f32], numbers: &[f32], n: usize)
 }
 
 // Zeros from a place on.
-fn clear(to: &mut [f32], from: usize)
+pub fn clear(to: &mut [f32], from: usize)
     requires { ⌜ from ≤ length (now to) ⌝ }
     ensures { λ _. ⌜ now (to .exit) ≡ filledOf (length (now (to .entry))) (take from (now (to .entry))) ⌝ }
 {
@@ -47,21 +47,28 @@ pub fn filled(numbers: &[f32]) -> [f32; 2048]
     array
 }
 
-// The same in place, so that a state's array is not copied.
+// The same in place, so that no array is copied.
+pub fn fill_slice(to: &mut [f32], numbers: &[f32])
+    requires { ⌜ length (now numbers) ≤ length (now to) ⌝ }
+    ensures { λ _. ⌜ now (to .exit) ≡ filledOf (length (now (to .entry))) (now (numbers .entry)) ⌝ }
+{
+    put(to, numbers);
+    clear(to, numbers.len());
+}
+
+// A struct's field is lent as the array that it is, and goes on as a slice.
 pub fn fill(to: &mut [f32; 2048], numbers: &[f32])
     requires { ⌜ length (now numbers) ≤ 2048 ⌝ }
     ensures { λ _. ⌜ now (to .exit) ≡ filledOf 2048 (now (numbers .entry)) ⌝ }
 {
-    put(to, numbers);
-    clear(to, numbers.len());
+    fill_slice(to, numbers);
 }
 
 pub fn fill_warmup(to: &mut [f32; 300], energies: &[f32])
     requires { ⌜ length (now energies) ≤ 300 ⌝ }
     ensures { λ _. ⌜ now (to .exit) ≡ filledOf 300 (now (energies .entry)) ⌝ }
 {
-    put(to, energies);
-    clear(to, energies.len());
+    fill_slice(to, energies);
 }
 
 // The first n numbers stay.

@@ -1,10 +1,12 @@
 use mathlib.Core.Path.{_≡_, sym, ap, _∙_}
-use mathlib.Core.List.{_++_}
+use Prim.Native.Nat.{_≤_}
 use lib.ListN.{length}
 use lib.Seq.{sets}
 use Rattle.lists.specs.Every.{length-map}
-use Rattle.vad_memory.proofs.Parts.{Long, long-parts}
-use Rattle.vad_memory.proofs.Put.{numbers-put, floats-put}
+use Rattle.vad_state.specs.Kept.{hollowOf}
+use Rattle.vad_memory.specs.DetectorState.{numbersWritten, singlesOf}
+use Rattle.vad_memory.proofs.Parts.{Long, long-parts, long-whole}
+use Rattle.vad_memory.proofs.Put.{written-hollow, singles-hollow, singles-put}
 use borrow.Author.Needs.{needs}
 use Rattle.vad_memory.proofs.put_detector.Statement.{statement}
 use Rattle.vad_memory.proofs.put_detector.Tie as tie
@@ -21,20 +23,17 @@ carry-long s = sym (length-map _ (s .args .detector .carry)) ∙ s .good .1 .1 .
 warmup-long : (s : tie.Start) → length (s .args .detector .warmup) ≡ 300
 warmup-long s = sym (length-map _ (s .args .detector .warmup)) ∙ s .good .1 .1 .0 .1 .1 .1 .1 .1 .1 .1 .1 .1 .1 .0 .1 .0 .1
 
-numbers-of-requires : tie.Need-numbers-of-requires
-numbers-of-requires c κs = search needs
-
-slice-aggregate-put-numbers : tie.Need-slice-aggregate-put-numbers
-slice-aggregate-put-numbers c = search needs
-
-put-numbers-requires : tie.Need-put-numbers-requires
-put-numbers-requires c κs = let long = told (c .before .before .before .before .before) .numbers in search needs
-
-singles-of-requires : tie.Need-singles-of-requires
-singles-of-requires c κs = search needs
-
 put-arrays-requires : tie.Need-put-arrays-requires
-put-arrays-requires c κs = told (c .before .before .before .before .before .before .before .before .before .before .before) .floats
+put-arrays-requires c κs = told (c .before .before .before) .floats
+
+kept-of-requires : tie.Need-kept-of-requires
+kept-of-requires c κs = search needs
+
+put-kept-requires : tie.Need-put-kept-requires
+put-kept-requires c κs =
+    let long = told (c .before .before .before .before .before .before .before .before .before) in
+    let room : 4407 ≤ length (c .before .before .before .before .before .put-arrays .last .0) = (let before = long .floats in search needs) in
+    long-whole _ _ (long .numbers) room
 
 same-length : tie.Need-same-length
 same-length c = search needs
@@ -46,21 +45,27 @@ returns : tie.Need-returns
 returns c =
     let s = c .before .before .before .before .before .before .before .before .before .before .before .before .before .before in
     let d = s .args .detector in
+    let t = s .args .tally in
     let ns = s .args .numbers .now in
-    let fs = s .args .floats .now in (
-      c .before .before .before .before .before .before .before .before .put-numbers .ensures ∙ ap (sets ns 0) (c .before .before .before .before .before .before .before .before .before .before .numbers-of .ensures) ∙ numbers-put d (s .args .tally) ns (told s .numbers),
-      c .before .before .put-arrays .ensures ∙ ap (λ ys. sets fs 0 (d .window ++ (d .carry ++ (d .warmup ++ ys)))) (c .before .before .before .before .singles-of .ensures) ∙ floats-put d fs (window-long s) (carry-long s) (warmup-long s) (told s .floats),
+    let fs = s .args .floats .now in
+    let kept = c .before .before .before .before .before .kept-of in
+    let arrays = c .before .before .before .before .before .before .before .before .before .before .put-arrays in
+    let put = c .before .before .before .before .put-kept .ensures in (
+      put .0 ∙ ap (λ k. numbersWritten (hollowOf k) t ns) (kept .ensures) ∙ written-hollow d t ns,
+      put .1
+          ∙ ap (λ k. sets (arrays .last .0) 4396 (singlesOf (hollowOf k))) (kept .ensures)
+          ∙ ap (sets (arrays .last .0) 4396) (singles-hollow d)
+          ∙ ap (λ xs. sets xs 4396 (singlesOf d)) (arrays .ensures)
+          ∙ singles-put d fs (window-long s) (carry-long s) (warmup-long s) (told s .floats),
     )
 
 pub put-detector-spec : {M : Type 1} → statement M
 put-detector-spec =
     tie.close
     (tie.spec
-    numbers-of-requires
-    slice-aggregate-put-numbers
-    put-numbers-requires
-    singles-of-requires
     put-arrays-requires
+    kept-of-requires
+    put-kept-requires
     same-length
     same-length-2
     returns)

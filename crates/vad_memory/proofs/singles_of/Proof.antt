@@ -7,7 +7,7 @@ segment-of-requires : tie.Need-segment-of-requires
 segment-of-requires c κs = search needs
 
 returns : tie.Need-returns
-returns c = singles-are (c .before .args .detector) (c .segment-of .result .segment .«energy_sum») (c .segment-of .ensures .1)
+returns c = singles-are (c .before .args .kept) (c .segment-of .result .segment .«energy_sum») (c .segment-of .ensures .1)
 
 pub singles-of-spec : {M : Type 1} → statement M
 singles-of-spec =
