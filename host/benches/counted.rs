@@ -16,7 +16,7 @@ use speech_prep::preprocessing::DcHighPassFilter;
 const CALLS: usize = 1_000;
 
 /// What a side does with a block.
-fn side(what: &str, side: &str, block: usize) -> Box<dyn FnMut(&[f32])> {
+fn side(what: &str, side: &str) -> Box<dyn FnMut(&[f32])> {
     let vad = VadConfig::default();
     let filter = PreprocessingConfig::default();
     match (what, side) {
@@ -35,7 +35,7 @@ fn side(what: &str, side: &str, block: usize) -> Box<dyn FnMut(&[f32])> {
         }
         ("filter", "port") => {
             let mut port = Filter::new(filter).expect("accepted");
-            let mut output = vec![0.0; block];
+            let mut output = vec![0.0; 1_024];
             Box::new(move |samples| {
                 let output = &mut output[..samples.len()];
                 port.process(samples, None, output).expect("accepted");
@@ -62,7 +62,7 @@ fn main() {
     let block: usize = block.parse().expect("a block's samples");
     let rounds: usize = rounds.parse().expect("how many rounds");
     let sound = breakfast::breakfast();
-    let mut hear = side(what, whose, block);
+    let mut hear = side(what, whose);
     if block == 0 {
         // Past the warm-up, with a carry.
         sound[..40_001].chunks(1_024).for_each(&mut hear);
