@@ -1,10 +1,9 @@
 -- What the count of leading numbers, and the test of all, say of each number. Assumes nothing.
-use mathlib.Core.Path.{_≡_, refl, sym, _∙_}
+use mathlib.Core.Path.{_≡_, refl, sym, ap, _∙_}
 use mathlib.Core.Bool.{Bool, true, false, _&&_, cond, true≢false}
 use mathlib.Core.List.{List, [], _∷_}
 use Prim.Native.Nat.{suc, _≤_}
 use native.Mathlib.Omega.{arith}
-use lib.Dec.{eqb, eqb·suc-suc, eqb·zero-suc}
 use lib.ListN.{length}
 use lib.Ieee.{Float, ofBits, le, neg}
 use Rattle.lists.specs.Every.{Every, every-map}
@@ -48,14 +47,13 @@ module _ (low high : Float) where
   within-all [] h = refl
   within-all (x ∷ xs) h = rw (h .0, within-all xs (h .1))
 
-  pub all-counted : (xs : List Float) → eqb (leadingOf low xs high) (length xs) ≡ allWithin low xs high
+  pub all-leading : (xs : List Float) → allWithin low xs high ≡ true → length xs ≡ leadingOf low xs high
   unfolding leadingOf allWithin
-  all-counted [] = refl
-  all-counted (x ∷ xs) = go (within low x high) (all-counted xs)
-    where
-      go : (t : Bool) → eqb (leadingOf low xs high) (length xs) ≡ allWithin low xs high → eqb (cond t (suc (leadingOf low xs high)) 0) (suc (length xs)) ≡ t && allWithin low xs high
-      go true ih = eqb·suc-suc (leadingOf low xs high) (length xs) ∙ ih
-      go false ih = eqb·zero-suc (length xs)
+  all-leading [] h = refl
+  all-leading (x ∷ xs) h =
+      let p = both (within low x high) (allWithin low xs high) h in
+      let e : cond (within low x high) (suc (leadingOf low xs high)) 0 ≡ suc (leadingOf low xs high) = rw (p .0) in
+      ap suc (all-leading xs (p .1)) ∙ sym e
 
 -- ---- samples
 

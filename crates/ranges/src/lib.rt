@@ -1,5 +1,6 @@
 // Ranges of floats: one number, and a slice up to the first number outside.
 ghost use mathlib.Core.Path.{_≡_};
+ghost use mathlib.Core.Bool.{_&&_};
 ghost use Rattle.ranges.specs.Ranges.{within, leadingOf, allWithin, cleanOf};
 
 pub fn inside(low: f32, x: f32, high: f32) -> bool
@@ -7,6 +8,15 @@ pub fn inside(low: f32, x: f32, high: f32) -> bool
 {
     if low <= x {
         return x <= high;
+    }
+    false
+}
+
+fn both(a: bool, b: bool) -> bool
+    ensures { λ r. ⌜ r ≡ (a && b) ⌝ }
+{
+    if a {
+        return b;
     }
     false
 }
@@ -25,15 +35,25 @@ pub fn leading(low: f32, xs: &[f32], high: f32) -> usize
     i
 }
 
+// Every number is looked at, so that the processor can look at several at once.
 pub fn all_inside(low: f32, xs: &[f32], high: f32) -> bool
     ensures { λ r. ⌜ r ≡ allWithin low (now (xs .entry)) high ⌝ }
 {
-    leading(low, xs, high) == xs.len()
+    let mut all = true;
+    let mut k = 0;
+    while k < xs.len() {
+        all = both(all, inside(low, xs[k], high));
+        k += 1;
+    }
+    all
 }
 
 // How many samples stand before the first outside the domain.
 pub fn clean(samples: &[f32]) -> usize
     ensures { λ r. ⌜ r ≡ cleanOf (now (samples .entry)) ⌝ }
 {
+    if all_inside(-65536.0, samples, 65536.0) {
+        return samples.len();
+    }
     leading(-65536.0, samples, 65536.0)
 }

@@ -4,8 +4,8 @@ use mathlib.Core.Bool.{Bool, true, false, not, cond}
 use mathlib.Core.List.{List, [], _∷_}
 use Prim.Native.Nat.{ℕ, suc, _+_, _^_, _≤_, _<_}
 use native.Mathlib.Omega.{arith}
-use borrow.Author.Tests.{ltb-true, ltb-false, eqb-true}
-use lib.Dec.{ltb, eqb}
+use borrow.Author.Tests.{ltb-true, ltb-false}
+use lib.Dec.{ltb}
 use lib.ListN.{length, length-append, length-take}
 use lib.Ieee.{Float}
 use Rattle.ranges.specs.Ranges.{cleanOf}
@@ -13,28 +13,57 @@ use Rattle.vad_config.specs.Domain.{receivedIn}
 use Rattle.vad_frames.specs.Emphasis.{coefficientOf, emphasized}
 use Rattle.vad_frames.proofs.Laws.{emphasized-length}
 use Rattle.vad_segments.specs.Closing.{reported}
+use Rattle.vad_segments.specs.Positions.{undecidedOf}
 use Rattle.vad_segments.specs.Judging.{judgedOf, trackAfter, rowsOf, endedOf, callRows}
 use Rattle.vad_segments.specs.declared.Rules.{Rules}
 use Rattle.vad_segments.specs.declared.FrameMetrics.{FrameMetrics}
 use Rattle.vad_segments.specs.declared.ActiveSegment.{ActiveSegment}
 use Rattle.vad_segments.specs.declared.ActiveSegment.the-variants.{Closed, Open}
-use Rattle.vad_segments.specs.declared.SpeechChunk.{SpeechChunk}
 use Rattle.vad_segments.specs.declared.Track.{Track}
 use Rattle.vad_segments.proofs.Ordered.{frames-length}
 use Rattle.vad_segments.proofs.Rooms.{report-le}
 use Rattle.vad_segments.proofs.Undecided.{undecided-le}
 use Rattle.vad_state.specs.State.{carriedOf, soundOf}
+use Rattle.vad_state.specs.Kept.{wholeOf}
+use Rattle.vad_state.specs.declared.Kept.{Kept}
 use Rattle.vad_state.specs.declared.VadDetector.{VadDetector}
 use Rattle.vad_state.proofs.Parts.{ActiveIn, Sound, parts, frame-high}
-use Rattle.vad_call.specs.Calls.{valuesOf, measuredOf, progressOf, carryAfter, holdingOf, keptOf, dueOf, seededOf, gridStart, framesDue, verdictOf, rowsDue, tooMany, refusedBy, acceptedOf, concludedOf, ranOf}
+use Rattle.vad_call.specs.Calls.{rowsOfCall, valuesOf, measuredOf, progressOf, carryAfter, holdingOf, keptOf, dueOf, seededOf, gridStart, framesDue, verdictOf, rowsDue, tooMany, refusedBy, acceptedOf, concludedOf, ranOf}
 use Rattle.vad_call.specs.declared.Detected.{Detected}
 use Rattle.vad_call.specs.declared.Refusal.{Refusal}
 use Rattle.vad_call.proofs.Calls.{measured-few}
-use Rattle.vad_detector.specs.Entries.{checkOf, detectOf, flushOf}
-use Rattle.vad_detector.specs.Readings.{readOf, undecidedIn, undecidedRead, analyzedRead, rowsRead, talkRead, openStart, segmentRead}
-use Rattle.vad_detector.specs.declared.Reading.{Reading}
-use Rattle.vad_detector.specs.declared.SegmentReading.{SegmentReading}
-use Rattle.vad_detector.proofs.Answers.{checked}
+use Rattle.vad_detector.specs.Entries.{checkOf}
+use Rattle.vad_detector.specs.Readings.{openStart}
+use Rattle.vad_lent.specs.Lent.{wholeAt}
+use Rattle.vad_memory.proofs.RoundTrip.{Shaped}
+use Rattle.vad_door.specs.DetectorDoor.{startWord}
+use Rattle.vad_door.proofs.Carried.{ran-shaped}
+
+-- ---- a call that no check refused: 18 or 0
+
+module _ (finish : Bool) (d : VadDetector) (xs : List Float) (room : ℕ) where
+  abbrev accepted : Detected
+  accepted =
+      let es = measuredOf finish d xs in
+      acceptedOf d (progressOf finish d xs) (holdingOf finish d es) (carryAfter finish d xs) (keptOf finish d es) (verdictOf finish d (d .«processed_samples» + length xs) (dueOf finish d es)) (length (rowsOfCall finish d xs))
+
+  ran-ways : (P : Detected → Type 0) → P (refusedBy 18 (length (rowsOfCall finish d xs)) d) → P accepted → P (ranOf finish d xs room)
+  unfolding ranOf concludedOf progressOf rowsOfCall
+  ran-ways P stuck done = go (tooMany (rowsOfCall finish d xs) room)
+    where
+      go : (b : Bool) → P (cond b (refusedBy 18 (length (rowsOfCall finish d xs)) d) accepted)
+      go true = stuck
+      go false = done
+
+  -- refused, it answers the state that it was given
+  pub ran-given : (ranOf finish d xs room .refusal .number ≡ 0 → ⊥) → ranOf finish d xs room .detector ≡ d
+  unfolding refusedBy acceptedOf
+  ran-given = ran-ways (λ p. (p .refusal .number ≡ 0 → ⊥) → p .detector ≡ d) (λ z. refl) (λ z. absurd (z refl))
+
+  -- and its arrays have their lengths in every case
+  pub ran-arrays : Sound d → Shaped d → Shaped (ranOf finish d xs room .detector)
+  unfolding refusedBy acceptedOf
+  ran-arrays s h = ran-ways (λ p. Shaped (p .detector)) h (ran-shaped finish d xs s h)
 
 -- ---- 18: a row a frame, and one where flush closes a segment
 
@@ -87,25 +116,14 @@ module _ (finish : Bool) (d : VadDetector) where
     unfolding measuredOf
     measured-small = measured-few finish d s (valuesOf d xs) values-few
 
-    ran-small : (room : ℕ) → ranOf finish d xs room .refusal .carries ≤ 1025
-    unfolding ranOf concludedOf refusedBy acceptedOf progressOf
-    ran-small room = go (tooMany rows room)
-      where
-        es : List Float
-        es = measuredOf finish d xs
-
-        received : ℕ
-        received = d .«processed_samples» + length xs
-
-        rows : List SpeechChunk
-        rows = rowsDue finish d received (dueOf finish d es)
-
-        done : Detected
-        done = acceptedOf d (progressOf finish d xs) (holdingOf finish d es) (carryAfter finish d xs) (keptOf finish d es) (verdictOf finish d received (dueOf finish d es)) (length rows)
-
-        go : (b : Bool) → cond b (refusedBy 18 (length rows) d) done .refusal .carries ≤ 1025
-        go true = let m = measured-small in let n = due-few es in let k = rows-due-few received (dueOf finish d es) in omega arith
-        go false = omega arith
+    pub ran-small : (room : ℕ) → ranOf finish d xs room .refusal .carries ≤ 1025
+    unfolding refusedBy acceptedOf rowsOfCall
+    ran-small room =
+        let es = measuredOf finish d xs in
+        let m = measured-small in
+        let n = due-few es in
+        let k = rows-due-few (d .«processed_samples» + length xs) (dueOf finish d es) in
+        ran-ways finish d xs room (λ p. p .refusal .carries ≤ 1025) (omega arith) (omega arith)
 
 -- ---- 16: the place of a sample
 
@@ -121,97 +139,48 @@ placed true false false false p h = omega arith
 placed true true b f p h = omega arith
 placed false l b f p h = omega arith
 
-check-small : (d : VadDetector) (xs : List Float) → checkOf d xs .carries ≤ 1024
+pub check-small : (d : VadDetector) (xs : List Float) → checkOf d xs .carries ≤ 1024
 unfolding checkOf numbered
 check-small d xs =
     placed (soundOf d) (ltb 1024 (length xs)) (ltb (cleanOf xs) (length xs)) (not (receivedIn (d .«processed_samples» + length xs))) (cleanOf xs)
     (λ l b. let m : length xs ≤ 1024 = ltb-false 1024 (length xs) l in let n : cleanOf xs < length xs = ltb-true (cleanOf xs) (length xs) b in omega arith)
 
--- ---- a call's answer
-
-small : (p q : Detected) → p ≡ q → q .refusal .carries ≤ 1025 → p .refusal .carries < 2 ^ 55
-small p q e h = subst (λ (x : Detected). x .refusal .carries < 2 ^ 55) (sym e) (omega arith)
-
-module _ (d : VadDetector) where
-  detect-few : (xs : List Float) (room : ℕ) → detectOf d xs room .refusal .carries ≤ 1025
-  unfolding detectOf refusedBy
-  detect-few xs room = go (eqb n 0) (eqb-true n 0)
-    where
-      n : ℕ
-      n = checkOf d xs .number
-
-      go : (b : Bool) → (b ≡ true → n ≡ 0) → cond b (ranOf false d xs room) (refusedBy n (checkOf d xs .carries) d) .refusal .carries ≤ 1025
-      go true h = let c = checked d xs (h refl) in ran-small false d (parts d (c .sound)) xs (c .short) room
-      go false h = let m = check-small d xs in omega arith
-
-  pub detect-small : (xs : List Float) (room : ℕ) (p : Detected) → p ≡ detectOf d xs room → p .refusal .carries < 2 ^ 55
-  detect-small xs room p e = small p (detectOf d xs room) e (detect-few xs room)
-
-  flush-few : (room : ℕ) → flushOf d room .refusal .carries ≤ 1025
-  unfolding flushOf refusedBy
-  flush-few room = go (soundOf d) refl
-    where
-      go : (b : Bool) → soundOf d ≡ b → cond b (ranOf true d [] room) (refusedBy 19 0 d) .refusal .carries ≤ 1025
-      go true h = ran-small true d (parts d h) [] (omega arith) room
-      go false h = omega arith
-
-  pub flush-small : (room : ℕ) (p : Detected) → p ≡ flushOf d room → p .refusal .carries < 2 ^ 55
-  flush-small room p e = small p (flushOf d room) e (flush-few room)
-
-  pub refused-small : (n : ℕ) (p : Detected) → p ≡ refusedBy n 0 d → p .refusal .carries < 2 ^ 55
-  unfolding refusedBy
-  refused-small n p e = small p (refusedBy n 0 d) e (omega arith)
-
--- ---- readings: a malformed state's are 0
-
-module _ (d : VadDetector) (r : Reading) where
-  read-small : (v : ℕ) → (Sound d → v ≤ 2 ^ 40) → r ≡ readOf d v → r .value < 2 ^ 55
-  unfolding readOf
-  read-small v h e = subst (λ (x : Reading). x .value < 2 ^ 55) (sym e) (go (soundOf d) refl)
-    where
-      go : (b : Bool) → soundOf d ≡ b → cond {A = Reading} b (record { refusal = 0; value = v }) (record { refusal = 19; value = 0 }) .value < 2 ^ 55
-      go true s = let m = h (parts d s) in omega arith
-      go false s = omega arith
-
-  start-few : Sound d → d .«carry_start» ≤ 2 ^ 40
-  start-few s = let j = s .joined in let m = s .received in omega arith
-
-  pub undecided-small : r ≡ undecidedRead d → r .value < 2 ^ 55
-  unfolding undecidedRead undecidedIn
-  undecided-small =
-      read-small (undecidedIn d) (λ s. let m = start-few s in let l = undecided-le (d .rules .lengths .«padding_samples») (d .«carry_start») (d .track) (d .warming) in omega arith)
-
-  pub analyzed-small : r ≡ analyzedRead d → r .value < 2 ^ 55
-  unfolding analyzedRead
-  analyzed-small = read-small (d .«carry_start») start-few
-
-  pub rows-small : r ≡ rowsRead d → r .value < 2 ^ 55
-  unfolding rowsRead
-  rows-small = read-small (d .track .«rows_reported») (λ s. let n = s .rows in let m = s .received in omega arith)
-
-  pub talk-small : r ≡ talkRead d → r .value < 2 ^ 55
-  unfolding talkRead
-  talk-small = read-small (d .track .«talk_samples») (λ s. let n = s .talk in let k = s .ended in let m = s .received in omega arith)
-
--- ---- the open segment's start
+-- ---- readings of a sound state
 
 start-in : (hangover received last : ℕ) (a : ActiveSegment) → ActiveIn hangover received last a → openStart a .«start_sample» ≤ received
 unfolding openStart
 start-in hangover received last Closed h = omega arith
 start-in hangover received last (Open s) h = h .start
 
-pub start-small : (d : VadDetector) (r : SegmentReading) → r ≡ segmentRead d → r .«start_sample» < 2 ^ 54
-unfolding segmentRead
-start-small d r e = subst (λ (x : SegmentReading). x .«start_sample» < 2 ^ 54) (sym e) (go (soundOf d) refl)
-  where
-    go : (b : Bool) → soundOf d ≡ b → cond {A = SegmentReading} b (openStart (d .track .«active_segment»)) (record { refusal = 19; «is_open» = false; «start_sample» = 0 }) .«start_sample» < 2 ^ 54
-    go true h =
-        let s = parts d h in
-        let m = s .received in
-        let l = start-in (d .rules .config .«hangover_frames») (d .«processed_samples») (d .track .«last_segment_end») (d .track .«active_segment») (s .active) in
-        omega arith
-    go false h = omega arith
+module _ (k : Kept) (fs : List Float) (h : soundOf (wholeAt k fs) ≡ true) where
+  told : Sound (wholeAt k fs)
+  told = parts (wholeAt k fs) h
 
-pub word-small : (b : Bool) (start w : ℕ) → start < 2 ^ 54 → w ≡ cond b (suc start) 0 → w < 2 ^ 55
-word-small true start w h e = omega arith
-word-small false start w h e = omega arith
+  pub analyzed-small : k .«carry_start» < 2 ^ 55
+  unfolding wholeAt wholeOf
+  analyzed-small = let j = told .joined in let m = told .received in omega arith
+
+  pub undecided-small : undecidedOf (k .warming) (k .rules .lengths .«padding_samples») (k .«carry_start») (k .track) < 2 ^ 55
+  undecided-small = let m = analyzed-small in let l = undecided-le (k .rules .lengths .«padding_samples») (k .«carry_start») (k .track) (k .warming) in omega arith
+
+  pub rows-small : k .track .«rows_reported» < 2 ^ 55
+  unfolding wholeAt wholeOf
+  rows-small = let n = told .rows in let m = told .received in omega arith
+
+  pub talk-small : k .track .«talk_samples» < 2 ^ 55
+  unfolding wholeAt wholeOf
+  talk-small = let n = told .talk in let l = told .ended in let m = told .received in omega arith
+
+  pub start-small : openStart (k .track .«active_segment») .«start_sample» < 2 ^ 54
+  unfolding wholeAt wholeOf
+  start-small =
+      let m = told .received in
+      let l = start-in (k .rules .config .«hangover_frames») (k .«processed_samples») (k .track .«last_segment_end») (k .track .«active_segment») (told .active) in
+      omega arith
+
+  pub word-small : (w : ℕ) → w ≡ startWord (openStart (k .track .«active_segment»)) → w < 2 ^ 55
+  word-small w e = subst (λ (n : ℕ). n < 2 ^ 55) (sym e) (go (openStart (k .track .«active_segment») .«is_open»))
+    where
+      go : (b : Bool) → cond b (suc (openStart (k .track .«active_segment») .«start_sample»)) 0 < 2 ^ 55
+      go true = let m = start-small in omega arith
+      go false = omega arith

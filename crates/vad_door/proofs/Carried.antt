@@ -62,7 +62,7 @@ kept-length : (finish : Bool) (d : VadDetector) → Sound d → (es : List Float
 unfolding keptOf holdingOf
 kept-length finish d s es = kept-few finish d es (holdingWith finish d (length es)) refl s (keptOf finish d es) refl
 
-ran-shaped : (finish : Bool) (d : VadDetector) (xs : List Float) → Sound d → Shaped d → Shaped (ranTo finish d xs)
+pub ran-shaped : (finish : Bool) (d : VadDetector) (xs : List Float) → Sound d → Shaped d → Shaped (ranTo finish d xs)
 unfolding advancedOf
 ran-shaped finish d xs s h = record {
   window = filled-length 2048 (windowOf d) (window-few d h);

@@ -1,1 +1,2 @@
 pub mod DetectorDoor
+pub mod Heard

@@ -3,7 +3,7 @@ use mathlib.Core.Bool.{true}
 use native.Mathlib.Omega.{arith}
 use borrow.Author.Tests.{not-true, not-false}
 use Rattle.vad_memory.specs.DetectorState.{readable}
-use Rattle.vad_door.proofs.Door.{floor-unread, floor-read}
+use Rattle.vad_door.proofs.Door.{readable-room, floor-unread, floor-read}
 use borrow.Author.Needs.{needs}
 use Rattle.vad_door.proofs.noise_floor.Statement.{statement}
 use Rattle.vad_door.proofs.noise_floor.Tie as tie
@@ -17,29 +17,25 @@ returns c = let s = c .before .before .before .before .args in floor-unread (s .
 good : (k : tie.Else1) → let s = k .before .before .before .before .args in readable (s .numbers .now) (s .floats .now) ≡ true
 good k = sym (k .before .well-formed .ensures) ∙ not-false _ (k .if1 .left)
 
-detector-at-requires : tie.Need-detector-at-requires
-detector-at-requires c κs = good c
-
-noise-floor-requires : tie.Need-noise-floor-requires
-noise-floor-requires c κs = search needs
+kept-at-requires : tie.Need-kept-at-requires
+kept-at-requires c κs = good c
 
 to-bits-requires : tie.Need-to-bits-requires
 to-bits-requires c κs = search needs
 
-cast-answer : tie.Need-cast-answer
-cast-answer c = search needs
+cast-read : tie.Need-cast-read
+cast-read c = search needs
 
-answer-requires : tie.Need-answer-requires
-answer-requires c κs = search needs
+read-requires : tie.Need-read-requires
+read-requires c κs = (readable-room _ _ (good (c .before .before)), λ h. omega arith)
 
 returns-2 : tie.Need-returns-2
 returns-2 c =
+    let kept = c .before .before .kept-at in
     let bits = c .before .to-bits in
-    let read = c .before .before .noise-floor in
-    let state = c .before .before .before .detector-at in
-    let k = c .before .before .before .before in
+    let k = c .before .before .before in
     let s = k .before .before .before .before .args in
-    floor-read (s .numbers .now) (s .floats .now) (good k) (state .result) (state .ensures) (read .result) (read .ensures) (bits .result) (bits .ensures) (c .answer .result) (c .answer .ensures)
+    floor-read (s .numbers .now) (s .floats .now) (good k) (kept .result) (kept .ensures) (c .read .result) (bits .result) (bits .ensures) (c .read .ensures)
 
 pub noise-floor-spec : {M : Type 1} → statement M
 noise-floor-spec =
@@ -47,9 +43,8 @@ noise-floor-spec =
     (tie.spec
     well-formed-requires
     returns
-    detector-at-requires
-    noise-floor-requires
+    kept-at-requires
     to-bits-requires
-    cast-answer
-    answer-requires
+    cast-read
+    read-requires
     returns-2)

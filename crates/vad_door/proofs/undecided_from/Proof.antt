@@ -5,7 +5,7 @@ use borrow.Author.Tests.{not-true, not-false}
 use Rattle.vad_detector.specs.Readings.{undecidedRead}
 use Rattle.vad_memory.specs.DetectorState.{detectorAt, readable}
 use Rattle.vad_door.proofs.Bounds.{undecided-small}
-use Rattle.vad_door.proofs.Door.{reading-unread, reading-read}
+use Rattle.vad_door.proofs.Door.{readable-room, reading-unread, undecided-read}
 use borrow.Author.Needs.{needs}
 use Rattle.vad_door.proofs.undecided_from.Statement.{statement}
 use Rattle.vad_door.proofs.undecided_from.Tie as tie
@@ -19,22 +19,25 @@ returns c = let s = c .before .before .before .before .args in reading-unread (s
 good : (k : tie.Else1) → let s = k .before .before .before .before .args in readable (s .numbers .now) (s .floats .now) ≡ true
 good k = sym (k .before .well-formed .ensures) ∙ not-false _ (k .if1 .left)
 
-detector-at-requires : tie.Need-detector-at-requires
-detector-at-requires c κs = good c
+kept-at-requires : tie.Need-kept-at-requires
+kept-at-requires c κs = good c
 
 undecided-from-requires : tie.Need-undecided-from-requires
 undecided-from-requires c κs = search needs
 
-answer-requires : tie.Need-answer-requires
-answer-requires c κs = let small = undecided-small (c .before .detector-at .result) (c .undecided-from .result) (c .undecided-from .ensures) in omega arith
+read-requires : tie.Need-read-requires
+read-requires c κs =
+    let k = c .before .before in
+    let kept = c .before .kept-at .result in
+    (readable-room _ _ (good k), λ h. let small = undecided-small kept (k .before .before .before .before .args .floats .now) h in omega (arith, c .undecided-from .ensures))
 
 returns-2 : tie.Need-returns-2
 returns-2 c =
-    let read = c .before .undecided-from in
-    let state = c .before .before .detector-at in
+    let kept = c .before .before .kept-at in
+    let position = c .before .undecided-from in
     let k = c .before .before .before in
     let s = k .before .before .before .before .args in
-    reading-read (s .numbers .now) (s .floats .now) (good k) (state .result) (state .ensures) undecidedRead (read .result) (read .ensures) (c .answer .result) (c .answer .ensures)
+    undecided-read (s .numbers .now) (s .floats .now) (good k) (kept .result) (kept .ensures) (c .read .result) (position .result) (position .ensures) (c .read .ensures)
 
 pub undecided-from-spec : {M : Type 1} → statement M
 undecided-from-spec =
@@ -42,7 +45,7 @@ undecided-from-spec =
     (tie.spec
     well-formed-requires
     returns
-    detector-at-requires
+    kept-at-requires
     undecided-from-requires
-    answer-requires
+    read-requires
     returns-2)
