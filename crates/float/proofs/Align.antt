@@ -75,7 +75,7 @@ module _ (f : Format) (j : ℕ) (x y m d e : ℕ) where
   exact-up : m ≡ y * 2 ^ d → m * 2 ^ e ≡ y * 2 ^ (d + e)
   exact-up p = ap (λ (z : ℕ). z * 2 ^ e) p ∙ mul-assoc y (2 ^ d) (2 ^ e) ∙ ap (λ (z : ℕ). y * z) (sym (pow-add 2 d e))
 
-  exact : (s t : Bool) → m ≡ y * 2 ^ d → sum f s (x * 2 ^ (d + e)) t (m * 2 ^ e) (2 ^ j) ≡ round f (negOf s x t y) (magOf s x t y * 2 ^ (d + e)) (2 ^ j)
+  pub exact : (s t : Bool) → m ≡ y * 2 ^ d → sum f s (x * 2 ^ (d + e)) t (m * 2 ^ e) (2 ^ j) ≡ round f (negOf s x t y) (magOf s x t y * 2 ^ (d + e)) (2 ^ j)
   exact s t p =
       let k = 2 ^ (d + e) in
       ap (λ (z : ℕ). sum f s (x * k) t z (2 ^ j)) (exact-up p)

@@ -6,7 +6,7 @@ use mathlib.Core.Bool.{Bool}
 use lib.Dec.{T}
 use lib.Pow.{pow-add, pow-pos}
 use lib.IntN.{ℤ}
-use lib.Ieee.{Float, nan, inf, fin, binary32, unlike, up, down, sum, fits, toBits}
+use lib.Ieee.{Float, nan, inf, fin, Format, binary32, unlike, up, down, sum, fits, toBits}
 use lib.Ieee.Fits.{down-pos}
 use Rattle.float.specs.declared.Rounded.the-variants.{Nothing}
 use Rattle.float.specs.Inside.{fieldOf, signOf, fusedBitsOf, M, Q}
@@ -67,6 +67,16 @@ product-of m n p q i =
 addend-of : (m q : ℕ) → m * 2 ^ q * (2 ^ 150 * 2 ^ 14) ≡ m * 2 ^ (q + 164)
 addend-of m q = mul-assoc m (2 ^ q) (2 ^ 150 * 2 ^ 14) ∙ ap (λ (z : ℕ). m * z) (sym (pow-add 2 q 164))
 
+-- over the one denominator 2 ^ 314, in either format
+pub parts-sum : (f : Format) (w i : Bool) (s : Bool) (m : ℕ) (e : ℤ) (t : Bool) (n : ℕ) (d : ℤ) (u : Bool) (l : ℕ) (g : ℤ) (x y z : ℕ) → Decoded (fin s m e) x → Decoded (fin t n d) y → Decoded (fin u l g) z
+    → sum f w (m * up e * (n * up d) * down g) i (l * up g * (down e * down d)) (down e * down d * down g) ≡ sum f w (M x * M y * 2 ^ (Q x + Q y + 14)) i (M z * 2 ^ (Q z + 164)) (2 ^ 314)
+parts-sum f w i s m e t n d u l g x y z p q r =
+    sum-same f w (m * up e * (n * up d) * down g) i (l * up g * (down e * down d)) (down e * down d * down g)
+    (M x * M y * 2 ^ (Q x + Q y + 14)) (M z * 2 ^ (Q z + 164)) (2 ^ 314)
+    (mul-pos (mul-pos (down-pos e) (down-pos d)) (down-pos g)) (pow-pos 314)
+    (cross-product (m * up e) (n * up d) (down g) (2 ^ 150) (2 ^ 14) (M x * 2 ^ Q x) (M y * 2 ^ Q y) (down e) (down d) (p .2) (q .2) ∙ ap (λ (k : ℕ). k * (down e * down d * down g)) (product-of (M x) (M y) (Q x) (Q y) 14))
+    (cross-addend (l * up g) (down e) (down d) (down g) (2 ^ 150) (2 ^ 14) (M z * 2 ^ Q z) (r .2) ∙ ap (λ (k : ℕ). k * (down e * down d * down g)) (addend-of (M z) (Q z)))
+
 pub fused-is : (a b c : Float) → Decoded a (toBits binary32 a) → Decoded b (toBits binary32 b) → Decoded c (toBits binary32 c)
     → (fieldOf (toBits binary32 a) ≡ 255 → ⊥) → (fieldOf (toBits binary32 b) ≡ 255 → ⊥) → (fieldOf (toBits binary32 c) ≡ 255 → ⊥) → fusedBitsOf (toBits binary32 a) (toBits binary32 b) (toBits binary32 c) ≡ fusedOf a b c
 fused-is nan b c p q r u v w = absurd (u p)
@@ -83,8 +93,4 @@ fused-is (fin s m e) (fin t n d) (fin i l g) p q r u v w = both s m e t n d i l 
         ap rounded
         (sym (ap₂ (λ (a b : Bool). sum binary32 (unlike a b) (m * up e * (n * up d) * down g) i (l * up g * (down e * down d)) (down e * down d * down g)) (p .1) (q .1)
         ∙ ap (λ (a : Bool). sum binary32 (unlike (signOf x) (signOf y)) (m * up e * (n * up d) * down g) a (l * up g * (down e * down d)) (down e * down d * down g)) (r .1)
-        ∙ sum-same binary32 (unlike (signOf x) (signOf y)) (m * up e * (n * up d) * down g) (signOf z) (l * up g * (down e * down d)) (down e * down d * down g)
-        (M x * M y * 2 ^ (Q x + Q y + 14)) (M z * 2 ^ (Q z + 164)) (2 ^ 314)
-        (mul-pos (mul-pos (down-pos e) (down-pos d)) (down-pos g)) (pow-pos 314)
-        (cross-product (m * up e) (n * up d) (down g) (2 ^ 150) (2 ^ 14) (M x * 2 ^ Q x) (M y * 2 ^ Q y) (down e) (down d) (p .2) (q .2) ∙ ap (λ (k : ℕ). k * (down e * down d * down g)) (product-of (M x) (M y) (Q x) (Q y) 14))
-        (cross-addend (l * up g) (down e) (down d) (down g) (2 ^ 150) (2 ^ 14) (M z * 2 ^ Q z) (r .2) ∙ ap (λ (k : ℕ). k * (down e * down d * down g)) (addend-of (M z) (Q z)))))
+        ∙ parts-sum binary32 (unlike (signOf x) (signOf y)) (signOf z) s m e t n d i l g x y z p q r))

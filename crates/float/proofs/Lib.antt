@@ -15,6 +15,7 @@ pub mod RootExact
 pub mod Near
 pub mod Twice
 pub mod Wide
+pub mod Ties
 pub mod NearestRoot
 pub mod Unique
 pub mod Examples

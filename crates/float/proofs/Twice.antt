@@ -123,11 +123,11 @@ module _ (n c j : ℕ) (C : 0 < c) where
       closest-same (n * 2 ^ 149) u (n * 2 ^ 1074) (c * 2 ^ (j + 896) * 0x2000_0000) (mul-pos C (pow-pos j)) (mul-pos (mul-pos C (pow-pos (j + 896))) (pow-pos 29))
       (ap (λ (x : ℕ). n * 2 ^ 149 * x) w ∙ sym (mul-assoc (n * 2 ^ 149) u (2 ^ 925)) ∙ mul-right-comm (n * 2 ^ 149) u (2 ^ 925) ∙ ap (λ (x : ℕ). x * u) (sym unit-is))
 
-  narrow-units : (s : Bool) (q : ℕ) → Dropped 53 (n * 2 ^ 1074) c (j + 896) → closest (n * 2 ^ 1074) (c * 2 ^ (j + 896)) ≡ q → (q % 0x2000_0000 ≡ 0x1000_0000 → ⊥) → round binary32 s n c ≡ units binary32 s ((q + 0x1000_0000) / 0x2000_0000) j
-  narrow-units s q d e m =
+  narrow-units : (s : Bool) (r : ℕ) → Dropped 53 (n * 2 ^ 1074) c (j + 896) → closest (n * 2 ^ 1074) (c * 2 ^ (j + 896) * 0x2000_0000) ≡ r → round binary32 s n c ≡ units binary32 s r j
+  narrow-units s r d e =
       round-is binary32 s n c
       ∙ ap (λ (z : ℕ). units binary32 s (closest (n * 2 ^ 149) (c * 2 ^ z)) z) (drop-is 24 (n * 2 ^ 149) c j (lit< tt) C (dropped-less d))
-      ∙ ap (λ (z : ℕ). units binary32 s z j) (kept-less ∙ narrow-closest (n * 2 ^ 1074) (c * 2 ^ (j + 896)) q (mul-pos C (pow-pos (j + 896))) e m)
+      ∙ ap (λ (z : ℕ). units binary32 s z j) (kept-less ∙ e)
 
 -- ---- the pattern: its sign, and what is left of it
 parts : (s : Bool) (b a : ℕ) → b ≡ cond s 0x8000_0000_0000_0000 0 + a → a < 0x8000_0000_0000_0000 → (b % 0x8000_0000_0000_0000 ≡ a) × (b / 0x8000_0000_0000_0000 * 0x8000_0000 ≡ cond s 0x8000_0000 0)
@@ -140,17 +140,17 @@ small q k le (inl z) h = omega arith
 small q k le (inr g) h = let l : 52 + k < 2098 = pow-lt-back (52 + k) 2098 (lt-of-le-of-lt (le-trans (le-of-eq (pow-add 2 52 k)) (mul-le-mul-right (2 ^ k) g)) h) in omega arith
 
 -- what the pattern b of a fraction's nearest f64 says, where it is no infinity's: the f64 is q * 2 ^ k units
-record Seen (s : Bool) (n c b : ℕ) : Type 0 where
-  k : ℕ
-  q : ℕ
-  dropped : Dropped 53 (n * 2 ^ 1074) c k
-  kept : closest (n * 2 ^ 1074) (c * 2 ^ k) ≡ q
-  le : q ≤ 2 ^ 53
-  ge : (k ≡ 0) ⊎ (2 ^ 52 ≤ q)
-  size-is : b % 0x8000_0000_0000_0000 ≡ k * 2 ^ 52 + q
-  sign-is : b / 0x8000_0000_0000_0000 * 0x8000_0000 ≡ cond s 0x8000_0000 0
+pub record Seen (s : Bool) (n c b : ℕ) : Type 0 where
+  pub k : ℕ
+  pub q : ℕ
+  pub dropped : Dropped 53 (n * 2 ^ 1074) c k
+  pub kept : closest (n * 2 ^ 1074) (c * 2 ^ k) ≡ q
+  pub le : q ≤ 2 ^ 53
+  pub ge : (k ≡ 0) ⊎ (2 ^ 52 ≤ q)
+  pub size-is : b % 0x8000_0000_0000_0000 ≡ k * 2 ^ 52 + q
+  pub sign-is : b / 0x8000_0000_0000_0000 * 0x8000_0000 ≡ cond s 0x8000_0000 0
 
-seen : (s : Bool) (n c b : ℕ) → 0 < c → toBits binary64 (round binary64 s n c) ≡ b → b % 0x8000_0000_0000_0000 < 0x7ff0_0000_0000_0000 → Seen s n c b
+pub seen : (s : Bool) (n c b : ℕ) → 0 < c → toBits binary64 (round binary64 s n c) ≡ b → b % 0x8000_0000_0000_0000 < 0x7ff0_0000_0000_0000 → Seen s n c b
 seen s n c b C e h =
     let w = n * 2 ^ 1074 in
     let k = drop 53 w c in
@@ -174,24 +174,25 @@ has-rounded nan s a c h = absurd h
 has-rounded (inf t) s a c h = absurd h
 has-rounded (fin t m e) s a c h = refl
 
+-- ---- where f64 keeps q, f32 keeps r, and the f32 is normal
+pub narrow-at : (s : Bool) (n c k j r : ℕ) → 0 < c → Dropped 53 (n * 2 ^ 1074) c k → k ≡ j + 896 → closest (n * 2 ^ 1074) (c * 2 ^ k * 0x2000_0000) ≡ r → r ≤ 2 ^ 24 → 2 ^ 23 ≤ r → j * 8388608 + r < 2139095040
+    → rounded (round binary32 s n c) ≡ Finite (ofBits binary32 (cond s 0x8000_0000 0 + (j * 8388608 + r)))
+narrow-at s n c k j r C d k-is e le ge top =
+    ap rounded (narrow-units n c j C s r (subst (λ (x : ℕ). Dropped 53 (n * 2 ^ 1074) c x) k-is d) (subst (λ (x : ℕ). closest (n * 2 ^ 1074) (c * 2 ^ x * 0x2000_0000) ≡ r) k-is e))
+    ∙ has-rounded (units binary32 s r j) s (r * 2 ^ j) (2 ^ 149) (units-val binary32 s r j (in-range r j le (inr ge) top))
+    ∙ ap Finite (sym (pack-in s r j le (inr ge) top))
+
 -- ---- an f64 that is neither subnormal nor an infinity in f32, nor in the middle of two f32
 pub narrow-round : (s : Bool) (n c b : ℕ) → 0 < c → toBits binary64 (round binary64 s n c) ≡ b
     → 0x3810_0000_0000_0000 < b % 0x8000_0000_0000_0000 → b % 0x8000_0000_0000_0000 < 0x47ef_ffff_e000_0000 → (b % 0x8000_0000_0000_0000 % 0x2000_0000 ≡ 0x1000_0000 → ⊥) → rounded (round binary32 s n c) ≡ Finite (ofBits binary32 (b / 0x8000_0000_0000_0000 * 0x8000_0000 + ((b % 0x8000_0000_0000_0000 + 0x1000_0000) / 0x2000_0000 - 0x1_c000_0000)))
 narrow-round s n c b C e lo hi m = go (seen s n c b C e (lt-of-lt-of-le hi (lit≤ tt)))
   where
-    at : (k q j r : ℕ) → Dropped 53 (n * 2 ^ 1074) c k → closest (n * 2 ^ 1074) (c * 2 ^ k) ≡ q → (q % 0x2000_0000 ≡ 0x1000_0000 → ⊥) → k ≡ j + 896 → r ≡ (q + 0x1000_0000) / 0x2000_0000 → r ≤ 2 ^ 24 → 2 ^ 23 ≤ r → j * 8388608 + r < 2139095040
-        → rounded (round binary32 s n c) ≡ Finite (ofBits binary32 (cond s 0x8000_0000 0 + (j * 8388608 + r)))
-    at k q j r d f m k-is r-is le ge top =
-        ap rounded (narrow-units n c j C s q (subst (λ (x : ℕ). Dropped 53 (n * 2 ^ 1074) c x) k-is d) (subst (λ (x : ℕ). closest (n * 2 ^ 1074) (c * 2 ^ x) ≡ q) k-is f) m ∙ ap (λ (x : ℕ). units binary32 s x j) (sym r-is))
-        ∙ has-rounded (units binary32 s r j) s (r * 2 ^ j) (2 ^ 149) (units-val binary32 s r j (in-range r j le (inr ge) top))
-        ∙ ap Finite (sym (pack-in s r j le (inr ge) top))
-
     go : Seen s n c b → rounded (round binary32 s n c) ≡ Finite (ofBits binary32 (b / 0x8000_0000_0000_0000 * 0x8000_0000 + ((b % 0x8000_0000_0000_0000 + 0x1000_0000) / 0x2000_0000 - 0x1_c000_0000)))
     go v =
         let j = v .k - 896 in
         let r = (v .q + 0x1000_0000) / 0x2000_0000 in
         let ge : 2 ^ 52 ≤ v .q = elim (v .ge) [ inl z ↦ absurd (omega arith) | inr g ↦ g ] in
-        at (v .k) (v .q) j r (v .dropped) (v .kept) (λ x. m (omega arith)) (omega arith) refl (omega arith) (omega arith) (omega arith)
+        narrow-at s n c (v .k) j r C (v .dropped) (omega arith) (narrow-closest (n * 2 ^ 1074) (c * 2 ^ v .k) (v .q) (mul-pos C (pow-pos (v .k))) (v .kept) (λ x. m (omega arith))) (omega arith) (omega arith) (omega arith)
         ∙ ap (λ (x : ℕ). Finite (ofBits binary32 x)) (ap₂ (λ (x y : ℕ). x + y) (sym (v .sign-is)) (omega arith))
 
 -- ---- zero: a fraction that f64 rounds to zero is at most half of f64's smallest value, and so less than half of f32's

@@ -27,7 +27,7 @@ neither : (b s : Bool) → T (finite (cond b nan (inf s))) → ⊥
 neither true s h = h
 neither false s h = h
 
-mul-finite : (f : Format) (x y : Float) → T (finite (mul f x y)) → T (finite x) × T (finite y)
+pub mul-finite : (f : Format) (x y : Float) → T (finite (mul f x y)) → T (finite x) × T (finite y)
 unfolding mul
 mul-finite f nan y h = absurd h
 mul-finite f (inf s) nan h = absurd h
@@ -37,7 +37,7 @@ mul-finite f (fin s m e) nan h = absurd h
 mul-finite f (fin s m e) (inf t) h = absurd (neither (eqb m 0) (unlike s t) h)
 mul-finite f (fin s m e) (fin t n d) h = (tt, tt)
 
-add-finite : (f : Format) (x y : Float) → T (finite (add f x y)) → T (finite x) × T (finite y)
+pub add-finite : (f : Format) (x y : Float) → T (finite (add f x y)) → T (finite x) × T (finite y)
 unfolding add
 add-finite f nan y h = absurd h
 add-finite f (inf s) nan h = absurd h
@@ -52,7 +52,7 @@ add-finite f (fin s m e) (inf t) h = absurd h
 add-finite f (fin s m e) (fin t n d) h = (tt, tt)
 
 -- by the pattern
-bits-finite : (v : Float) → toBits binary64 v % 0x8000_0000_0000_0000 < 0x7ff0_0000_0000_0000 → T (finite v)
+pub bits-finite : (v : Float) → toBits binary64 v % 0x8000_0000_0000_0000 < 0x7ff0_0000_0000_0000 → T (finite v)
 unfolding toBits
 bits-finite nan h = absurd (omega arith)
 bits-finite (inf true) h = absurd (omega arith)
@@ -94,7 +94,7 @@ add-exact (fin t m e) r a c u l g C h =
     second : (y e c g : ℕ) → y * e * (c * g) ≡ y * c * (e * g)
     second y e c g = simp (mul-assoc, mul-comm, mul-left-comm)
 
-wide-is : (s : Bool) (m : ℕ) (e : ℤ) (t : Bool) (n : ℕ) (d : ℤ) (u : Bool) (l : ℕ) (g : ℤ) (x y : ℕ) → Decoded (fin s m e) x → Decoded (fin t n d) y
+pub wide-is : (s : Bool) (m : ℕ) (e : ℤ) (t : Bool) (n : ℕ) (d : ℤ) (u : Bool) (l : ℕ) (g : ℤ) (x y : ℕ) → Decoded (fin s m e) x → Decoded (fin t n d) y
     → add binary64 (mul binary64 (fin s m e) (fin t n d)) (fin u l g) ≡ sum binary64 (unlike s t) (m * up e * (n * up d) * down g) u (l * up g * (down e * down d)) (down e * down d * down g)
 unfolding mul
 wide-is s m e t n d u l g x y p q =
@@ -102,7 +102,7 @@ wide-is s m e t n d u l g x y p q =
     (product-exact (m * up e) (down e) (n * up d) (down d) x y (unlike s t) (down-pos e) (down-pos d) (p .2) (q .2))
 
 -- ---- the f32 that the pattern settles is the fused result
-abbrev Wide : Float → Float → Float → Float
+abbrev pub Wide : Float → Float → Float → Float
 Wide a b c = add binary64 (mul binary64 a b) c
 
 settled : (a b c : Float) (r : Rounded) (x : Float) → T (fits binary32 a) → T (fits binary32 b) → T (finite a) × T (finite b) → T (finite c) → Narrowed (toBits binary64 (Wide a b c)) r → r ≡ Finite x → r ≡ fusedOf a b c

@@ -2,6 +2,7 @@
 // first, which settles nearly every result. And the roundings to whole numbers that settings and rows need.
 mod bits;
 mod fused;
+mod middle;
 mod narrow;
 mod root;
 mod rounding;
@@ -12,6 +13,7 @@ ghost use lib.Ieee.{binary32, ofBits, toBits};
 ghost use lib.Ieee.Scale.{finite};
 ghost use Rattle.float.specs.Finite.{orElse, orZero};
 ghost use Rattle.float.specs.Fused.{fusedOf};
+ghost use Rattle.float.specs.Inside.{WideOf};
 ghost use Rattle.float.specs.Root.{rootOf};
 
 // A finite number, or the word that there is none.
@@ -69,10 +71,11 @@ pub fn to_bits(x: f32) -> u32
 pub fn mul_add_or(a: f32, b: f32, c: f32, other: f32) -> f32
     ensures { λ r. ⌜ r ≡ orElse other (fusedOf a b c) ⌝ }
 {
-    let quick = narrow::narrowed(narrow::wide_bits(a, b, c));
+    let wide = narrow::wide_bits(a, b, c);
+    let quick = narrow::narrowed(wide);
     match quick {
         Rounded::Finite(x) => x,
-        Rounded::Nothing => or_else(whole_mul_add(a, b, c), other),
+        Rounded::Nothing => unsettled_or(a, b, c, wide, other),
     }
 }
 
@@ -86,7 +89,19 @@ pub fn mul_add(a: f32, b: f32, c: f32) -> Rounded
     Rounded::Finite(sum)
 }
 
-// The same in whole numbers, for the results that an f64 does not settle: a middle of two f32, a subnormal, an overflow.
+// The same where the f64 alone does not settle it, and apart from it, so that the quick way stays short. A sum that is exactly a middle needs no whole numbers.
+fn unsettled_or(a: f32, b: f32, c: f32, wide: u64, other: f32) -> f32
+    requires { ⌜ WideOf wide a b c ⌝ }
+    ensures { λ r. ⌜ r ≡ orElse other (fusedOf a b c) ⌝ }
+{
+    let middle = middle::middle_sum(a, b, c, wide);
+    match middle {
+        Rounded::Finite(y) => y,
+        Rounded::Nothing => or_else(whole_mul_add(a, b, c), other),
+    }
+}
+
+// The same in whole numbers: where the f64 is a middle that the sum only lies near to, or a subnormal or an overflow in f32.
 fn whole_mul_add(a: f32, b: f32, c: f32) -> Rounded
     ensures { λ r. ⌜ r ≡ fusedOf a b c ⌝ }
 {

@@ -1,14 +1,11 @@
 // a * b + c by the processor's own f64. The product of two f32 is exact in f64, and so the sum there is the exact sum S rounded to R, an f64.
 // Every middle of two neighbouring f32 is an f64, so S and R lie on the same side of each, and where R is no middle itself, R and S have the same nearest f32.
-ghost use mathlib.Core.Path.{_≡_};
-ghost use mathlib.Core.Logic.{_⊎_};
-ghost use lib.Ieee.{binary64, add, mul, toBits};
-ghost use Rattle.float.specs.Inside.{Narrowed};
+ghost use Rattle.float.specs.Inside.{WideOf, Narrowed};
 use super::Rounded;
 
 // The pattern of a * b + c in f64; a NaN's, 0x7ff8_0000_0000_0000, where that is one or an operand is one, which has no cast to f64.
 pub(crate) fn wide_bits(a: f32, b: f32, c: f32) -> u64
-    ensures { λ r. ⌜ (r ≡ 0x7ff8_0000_0000_0000) ⊎ (r ≡ toBits binary64 (add binary64 (mul binary64 a b) c)) ⌝ }
+    ensures { λ r. ⌜ WideOf r a b c ⌝ }
 {
     if a != a {
         return 0x7ff8_0000_0000_0000;

@@ -41,7 +41,7 @@ use Rattle.vad_memory.proofs.Parts as memory
 use Rattle.vad_memory.proofs.Put.{written-hollow, singles-hollow, singles-put}
 use Rattle.vad_memory.proofs.RoundTrip.{read-shaped}
 use Rattle.vad_door.specs.DetectorDoor.{openAnswer, openNumbers, openFloats, callAnswer, callNumbers, callFloats, detected, flushed, restarted, detectedRows, flushedRows, readAnswer, undecidedAnswer, analyzedAnswer, rowsAnswer, talkAnswer, floorAnswer, startWord, segmentAnswer}
-use Rattle.vad_door.specs.Heard.{heardOf, heardRows, heard, rowsHeard}
+use Rattle.vad_door.specs.Inside.{heardOf, heardRows, heard, rowsHeard}
 use Rattle.vad_door.proofs.Bounds.{ran-small, ran-given, ran-arrays, check-small}
 
 -- ---- opening

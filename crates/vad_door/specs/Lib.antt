@@ -1,2 +1,2 @@
 pub mod DetectorDoor
-pub mod Heard
+pub mod Inside

@@ -12,7 +12,7 @@ ghost use Rattle.vad_detector.specs.Readings.{openStart};
 ghost use Rattle.vad_memory.specs.DetectorState.{detectorAt, longEnough, readable, numbersWritten, floatsWritten};
 ghost use Rattle.vad_lent.specs.Lent.{wholeAt};
 ghost use Rattle.vad_door.specs.DetectorDoor.{openAnswer, openNumbers, openFloats, callAnswer, callNumbers, callFloats, detected, flushed, restarted, detectedRows, flushedRows, undecidedAnswer, analyzedAnswer, rowsAnswer, talkAnswer, floorAnswer, startWord, segmentAnswer};
-ghost use Rattle.vad_door.specs.Heard.{heard, rowsHeard};
+ghost use Rattle.vad_door.specs.Inside.{heard, rowsHeard};
 use answers::answer;
 use float::to_bits;
 use vad_call::Tally;
@@ -78,7 +78,7 @@ fn nothing_counted() -> Tally
     }
 }
 
-// Hears a block, or with `finish` the stream's end, in a state that no check refused. The arrays are written where they stand, the numbers only where the rows fit.
+// Hears a block, or with `finish` the stream's end, in a state that no check refused. The arrays are changed where they stand and the numbers put beside them; nothing is written where the rows do not fit.
 fn run(
     numbers: &mut [u64],
     floats: &mut [f32],

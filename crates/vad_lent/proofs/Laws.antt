@@ -18,7 +18,8 @@ use Rattle.vad_state.specs.declared.VadDetector.{VadDetector}
 use Rattle.vad_call.specs.Calls.{joinedOf, settledOf}
 use Rattle.vad_call.specs.declared.Detected.{Detected}
 use Rattle.vad_call.specs.declared.Heard.{Heard}
-use Rattle.vad_lent.specs.Lent.{wholeAt, arraysIn, putIn, settledIn}
+use Rattle.vad_lent.specs.Inside.{putIn, settledIn}
+use Rattle.vad_lent.specs.Lent.{wholeAt, arraysIn}
 
 -- each part is lent and written before the next is
 module _ (n : ℕ) (fs carry held x y z : List Float) where

@@ -1,4 +1,5 @@
--- Detect and flush as one: a block heard or, with `finish`, the stream's end, behind the same check. An end has no samples, so that only 19 can refuse it there.
+-- What the private functions answer: detect and flush as one, a block heard or, with `finish`, the stream's end, behind the same check. An end has no samples, so that only 19 can refuse it there.
+-- Nothing here has to be believed: no public contract cites it.
 use mathlib.Core.Bool.{Bool, cond}
 use mathlib.Core.List.{List}
 use Prim.Native.Nat.{ℕ}
