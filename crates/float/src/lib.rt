@@ -13,7 +13,6 @@ ghost use lib.Ieee.{binary32, ofBits, toBits};
 ghost use lib.Ieee.Scale.{finite};
 ghost use Rattle.float.specs.Finite.{orElse, orZero};
 ghost use Rattle.float.specs.Fused.{fusedOf};
-ghost use Rattle.float.specs.Inside.{WideOf};
 ghost use Rattle.float.specs.Root.{rootOf};
 
 // A finite number, or the word that there is none.
@@ -71,11 +70,10 @@ pub fn to_bits(x: f32) -> u32
 pub fn mul_add_or(a: f32, b: f32, c: f32, other: f32) -> f32
     ensures { λ r. ⌜ r ≡ orElse other (fusedOf a b c) ⌝ }
 {
-    let wide = narrow::wide_bits(a, b, c);
-    let quick = narrow::narrowed(wide);
+    let quick = narrow::narrowed(narrow::wide_bits(a, b, c));
     match quick {
         Rounded::Finite(x) => x,
-        Rounded::Nothing => unsettled_or(a, b, c, wide, other),
+        Rounded::Nothing => unsettled_or(a, b, c, other),
     }
 }
 
@@ -90,11 +88,10 @@ pub fn mul_add(a: f32, b: f32, c: f32) -> Rounded
 }
 
 // The same where the f64 alone does not settle it, and apart from it, so that the quick way stays short. A sum that is exactly a middle needs no whole numbers.
-fn unsettled_or(a: f32, b: f32, c: f32, wide: u64, other: f32) -> f32
-    requires { ⌜ WideOf wide a b c ⌝ }
+fn unsettled_or(a: f32, b: f32, c: f32, other: f32) -> f32
     ensures { λ r. ⌜ r ≡ orElse other (fusedOf a b c) ⌝ }
 {
-    let middle = middle::middle_sum(a, b, c, wide);
+    let middle = middle::middle_sum(a, b, c);
     match middle {
         Rounded::Finite(y) => y,
         Rounded::Nothing => or_else(whole_mul_add(a, b, c), other),

@@ -20,7 +20,7 @@ enum-told : tie.Need-enum-told
 enum-told c = search needs
 
 unsettled-or-requires : tie.Need-unsettled-or-requires
-unsettled-or-requires c κs = c .before .before .before .wide-bits .ensures
+unsettled-or-requires c κs = search needs
 
 returns : tie.Need-returns
 returns c =

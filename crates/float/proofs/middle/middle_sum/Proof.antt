@@ -50,26 +50,29 @@ add-if2 c = let h = small (c .before .place3 .result) (c .before .before .to-bit
 returns-2 : tie.Need-returns-2
 returns-2 c = let s = c .before .before .before .before .before .before .before .before .args in untried (fusedOf (s .a) (s .b) (s .c))
 
+wide-bits-requires : tie.Need-wide-bits-requires
+wide-bits-requires c κs = search needs
+
 halved-requires : tie.Need-halved-requires
 halved-requires c κs = search needs
 
 returns-3 : tie.Need-returns-3
 returns-3 c =
-    let s = c .before .before .before .before .before .before .before .before .before in
+    let s = c .before .before .before .before .before .before .before .before .before .before in
     let a = s .args .a in
     let b = s .args .b in
     let d = s .args .c in
-    let x = c .before .before .before .before .before .before .before .place in
-    let y = c .before .before .before .before .before .place2 in
-    let z = c .before .before .before .place3 in
-    let i = place-is a (x .result) (c .before .before .before .before .before .before .before .before .to-bits .result) (c .before .before .before .before .before .before .before .before .to-bits .ensures) (x .ensures) in
-    let j = place-is b (y .result) (c .before .before .before .before .before .before .to-bits2 .result) (c .before .before .before .before .before .before .to-bits2 .ensures) (y .ensures) in
-    let k = place-is d (z .result) (c .before .before .before .before .to-bits3 .result) (c .before .before .before .before .to-bits3 .ensures) (z .ensures) in
+    let x = c .before .before .before .before .before .before .before .before .place in
+    let y = c .before .before .before .before .before .before .place2 in
+    let z = c .before .before .before .before .place3 in
+    let i = place-is a (x .result) (c .before .before .before .before .before .before .before .before .before .to-bits .result) (c .before .before .before .before .before .before .before .before .before .to-bits .ensures) (x .ensures) in
+    let j = place-is b (y .result) (c .before .before .before .before .before .before .before .to-bits2 .result) (c .before .before .before .before .before .before .before .to-bits2 .ensures) (y .ensures) in
+    let k = place-is d (z .result) (c .before .before .before .before .before .to-bits3 .result) (c .before .before .before .before .before .to-bits3 .ensures) (z .ensures) in
     let lo : x .result + y .result ≤ z .result + 154 = omega arith in
     let hi : z .result + 122 ≤ x .result + y .result = omega arith in
     let lo' : Q (toBits binary32 a) + Q (toBits binary32 b) ≤ Q (toBits binary32 d) + 154 = omega (arith, i, j, k, lo) in
     let hi' : Q (toBits binary32 d) + 122 ≤ Q (toBits binary32 a) + Q (toBits binary32 b) = omega (arith, i, j, k, hi) in
-    tie-fused a b d (s .args .wide) (c .halved .result) (T-of (s .good .0 .1)) (T-of (s .good .1 .0 .1)) (T-of (s .good .1 .1 .0 .1)) lo' hi' (s .pre) (c .halved .ensures)
+    tie-fused a b d (c .before .wide-bits .result) (c .halved .result) (T-of (s .good .0 .1)) (T-of (s .good .1 .0 .1)) (T-of (s .good .1 .1 .0 .1)) lo' hi' (c .before .wide-bits .ensures) (c .halved .ensures)
 
 pub middle-sum-spec : {M : Type 1} → statement M
 middle-sum-spec =
@@ -86,5 +89,6 @@ middle-sum-spec =
     returns
     add-if2
     returns-2
+    wide-bits-requires
     halved-requires
     returns-3)
