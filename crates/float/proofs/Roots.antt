@@ -47,6 +47,13 @@ integer-root n = from-root (size n) 0 n zero-le (lt-of-lt-of-le (size-lt n) (sub
 pub root-is : (n r : ℕ) → Root n r → r ≡ integerRoot n
 root-is n r p = root-unique n r (integerRoot n) p (integer-root n)
 
+next-square : (a : ℕ) → (a + 1) * (a + 1) ≡ a * a + 2 * a + 1
+next-square a = let e = add-mul a 1 (a + 1) in let f = mul-add a a 1 in omega arith
+
+-- the two tests of a guess
+pub root-tested : (n r : ℕ) → r * r ≤ n → n ≤ r * r + 2 * r → r ≡ integerRoot n
+root-tested n r lo hi = let e = next-square r in root-is n r (lo, omega arith)
+
 -- ---- twice the root, with a sticky digit
 pub twice-exact : (n r : ℕ) → Root n r → r * r ≡ n → twiceRoot n ≡ 2 * r
 unfolding twiceRoot
@@ -103,10 +110,7 @@ module _ (n r s t : ℕ) (P : 0 < t) (p : Root n r) (q : Root (n * (t * t)) s) w
       e2 = squared r t ∙ ap (λ (x : ℕ). x * (t * t)) e
 
       grow : (a : ℕ) → a * a < (a + 1) * (a + 1)
-      grow a = subst (λ (x : ℕ). a * a < x) (sym (add-mul a 1 (a + 1) ∙ ap₂ (λ (x y : ℕ). x + y) (mul-add a a 1) (one-mul (a + 1)))) (more (a * a) (a * 1) a)
-        where
-          more : (x y z : ℕ) → x < x + y + (z + 1)
-          more x y z = omega arith
+      grow a = let e = next-square a in omega arith
 
   -- twice s, with its sticky digit, is strictly between 2 * r * t and (2 * r + 2) * t
   between : (r * r ≡ n → ⊥) → (2 * r * t < twiceRoot (n * (t * t))) × (twiceRoot (n * (t * t)) < 2 * r * t + 2 * t)

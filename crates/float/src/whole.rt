@@ -9,7 +9,7 @@ use super::rounding::magnitude_bits;
 use super::rounding::pack;
 
 // x as u64: cut toward zero, 0 for a NaN and for what is negative, the largest u64 for what is above it.
-fn saturating(x: f64) -> u64
+pub(crate) fn saturating(x: f64) -> u64
     ensures { λ r. ⌜ r ≡ toUnsigned 64 x ⌝ }
 {
     if -1.0 < x {

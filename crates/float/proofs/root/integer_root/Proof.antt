@@ -1,134 +1,45 @@
-use mathlib.Core.Path.{_≡_, sym, ap, _∙_, subst}
-use Prim.Native.Nat.{ℕ, suc, _+_, _-_, _*_, _%_, _^_, _≤_, _<_, zero-le}
+use Prim.Native.Nat.{ℕ, _+_, _*_, _≤_, _<_}
+use native.Mathlib.Nat.{mul-le-mul-left}
 use native.Mathlib.Omega.{arith}
-use lib.Dec.{lit≤}
+use borrow.Author.Needs.{needs}
+use Rattle.float.proofs.Roots.{root-tested}
 use Rattle.float.proofs.root.integer_root.Statement.{statement}
 use Rattle.float.proofs.root.integer_root.Tie as tie
-use native.Mathlib.Nat.{le-trans, le-of-eq, le-of-lt, lt-of-lt-of-le, lt-of-le-of-lt, add-assoc, mul-lt-mul-of-pos-right, mul-le-mul-left, two-pow-succ}
-use lib.Pow.{pow-pos}
-use Rattle.float.specs.Root.{integerRoot}
-use Rattle.float.proofs.Words.{unit-is}
-use Rattle.float.proofs.Roots.{root-is}
 
--- r is the root's digits from place i on
-abbrev Found : ℕ → ℕ → ℕ → Type 0
-Found n r i = (i ≤ 32) × (r * r ≤ n) × (n < (r + 2 ^ i) * (r + 2 ^ i)) × (r + 2 ^ i ≤ 2 ^ 32)
+-- below 2 ^ 32 a root's last square is in the word
+last-fits : (r : ℕ) → r < 4294967296 → r * r + 2 * r < 18446744073709551616
+last-fits r h =
+    let l : r ≤ 4294967295 = omega arith in
+    let q : r * r ≤ r * 4294967295 = mul-le-mul-left r l in
+    omega arith
 
-abbrev Inv-loop : tie.InvT-loop
-Inv-loop n r₀ i₀ r i = Found n r i
+near-root-requires : tie.Need-near-root-requires
+near-root-requires c κs = search needs
 
-abbrev μ-loop : tie.MeasureT-loop
-μ-loop n r₀ i₀ r i = i
+mul-square : tie.Need-mul-square
+mul-square c = omega (arith, last-fits (c .near-root .result) (c .near-root .ensures))
 
-start : (n : ℕ) → n < 18446744073709551616 → Found n 0 32
-start n h = (lit≤ tt, zero-le, h, lit≤ tt)
+mul-if2 : tie.Need-mul-if2
+mul-if2 c = search needs
 
-less : (i : ℕ) → 0 < i → i - 1 < i
-less i h = omega arith
+add-if2 : tie.Need-add-if2
+add-if2 c = omega (arith, last-fits (c .before .near-root .result) (c .before .near-root .ensures))
 
-in-word : (i : ℕ) → i ≤ 32 → i - 1 < 64
-in-word i h = omega arith
+returns : tie.Need-returns
+returns c =
+    let n = c .before .before .before .args .n in
+    let r = c .before .before .near-root .result in
+    let lo : r * r ≤ n = omega arith in
+    let hi : n ≤ r * r + 2 * r = omega arith in
+    (root-tested n r lo hi, c .before .before .near-root .ensures)
 
--- the digit at place i - 1, as the machine has it
-module _ (n r i : ℕ) (f : Found n r i) (p : 0 < i) where
-  digit : 1 * 2 ^ (i - 1) % 18446744073709551616 ≡ 2 ^ (i - 1)
-  digit = unit-is (i - 1) (in-word i (f .0))
+root-by-digits-requires : tie.Need-root-by-digits-requires
+root-by-digits-requires c κs = search needs
 
-  twice : 2 ^ i ≡ 2 ^ (i - 1) + 2 ^ (i - 1)
-  twice = ap (λ (x : ℕ). 2 ^ x) (back i p) ∙ two-pow-succ (i - 1)
-    where
-      back : (i : ℕ) → 0 < i → i ≡ suc (i - 1)
-      back i h = omega arith
-
-  t-lt : r + 2 ^ (i - 1) < 2 ^ 32
-  t-lt = under r (2 ^ (i - 1)) (2 ^ i) twice (pow-pos (i - 1)) (f .3)
-    where
-      under : (r k m : ℕ) → m ≡ k + k → 0 < k → r + m ≤ 4294967296 → r + k < 4294967296
-      under r k m e h l = omega arith
-
-  fits-t : r + 1 * 2 ^ (i - 1) % 18446744073709551616 < 18446744073709551616
-  fits-t = subst (λ (x : ℕ). r + x < 18446744073709551616) (sym digit) (lt-of-lt-of-le t-lt (lit≤ tt))
-
-  fits-square : (r + 1 * 2 ^ (i - 1) % 18446744073709551616) * (r + 1 * 2 ^ (i - 1) % 18446744073709551616) < 18446744073709551616
-  fits-square =
-      subst (λ (x : ℕ). (r + x) * (r + x) < 18446744073709551616) (sym digit)
-      (lt-of-le-of-lt (mul-le-mul-left (r + 2 ^ (i - 1)) (le-of-lt t-lt)) (mul-lt-mul-of-pos-right t-lt (pow-pos 32)))
-
-  less-i : i - 1 ≤ 32
-  less-i = under i (f .0)
-    where
-      under : (i : ℕ) → i ≤ 32 → i - 1 ≤ 32
-      under i h = omega arith
-
-  set : (r + 1 * 2 ^ (i - 1) % 18446744073709551616) * (r + 1 * 2 ^ (i - 1) % 18446744073709551616) ≤ n → Found n (r + 1 * 2 ^ (i - 1) % 18446744073709551616) (i - 1)
-  set h =
-      subst (λ (x : ℕ). Found n (r + x) (i - 1)) (sym digit)
-      (less-i, subst (λ (x : ℕ). (r + x) * (r + x) ≤ n) digit h, subst (λ (x : ℕ). n < x * x) both (f .2), le-trans (le-of-eq (sym both)) (f .3))
-    where
-      both : r + 2 ^ i ≡ r + 2 ^ (i - 1) + 2 ^ (i - 1)
-      both = ap (λ (x : ℕ). r + x) twice ∙ sym (add-assoc r (2 ^ (i - 1)) (2 ^ (i - 1)))
-
-  clear : n < (r + 1 * 2 ^ (i - 1) % 18446744073709551616) * (r + 1 * 2 ^ (i - 1) % 18446744073709551616) → Found n r (i - 1)
-  clear h = (less-i, f .1, subst (λ (x : ℕ). n < (r + x) * (r + x)) digit h, le-of-lt t-lt)
-
-at-end : (n r i : ℕ) → Found n r i → i ≤ 0 → (r ≡ integerRoot n) × (r < 4294967296)
-at-end n r i f e =
-    let z : i ≡ 0 = none i e in
-    (root-is n r (f .1, subst (λ (x : ℕ). n < (r + 2 ^ x) * (r + 2 ^ x)) z (f .2)), under r (2 ^ i) (pow-pos i) (f .3))
-  where
-    none : (i : ℕ) → i ≤ 0 → i ≡ 0
-    none i h = omega arith
-
-    under : (r k : ℕ) → 0 < k → r + k ≤ 4294967296 → r < 4294967296
-    under r k h l = omega arith
-
-loop-holds : tie.Need-loop-holds Inv-loop μ-loop
-loop-holds c = start (c .args .n) (c .fits .n .fits)
-
-sub-i : tie.Need-sub-i Inv-loop μ-loop
-sub-i c = omega arith
-
-cast-t : tie.Need-cast-t Inv-loop μ-loop
-cast-t c = omega arith
-
-shl-t : tie.Need-shl-t Inv-loop μ-loop
-shl-t c = omega arith
-
-add-t : tie.Need-add-t Inv-loop μ-loop
-add-t c = record { fits = fits-t (c .before .before .args .n) (c .before .loop .r) (c .before .loop .i) (c .before .loop .inv) (c .loop-test .taken) }
-
-mul-if1 : tie.Need-mul-if1 Inv-loop μ-loop
-mul-if1 c = record { fits = fits-square (c .before .before .args .n) (c .before .loop .r) (c .before .loop .i) (c .before .loop .inv) (c .loop-test .taken) }
-
-loop-less : tie.Need-loop-less Inv-loop μ-loop
-loop-less c = less (c .before .before .loop .i) (c .before .loop-test .taken)
-
-loop-again : tie.Need-loop-again Inv-loop μ-loop
-loop-again c = set (c .before .before .before .args .n) (c .before .before .loop .r) (c .before .before .loop .i) (c .before .before .loop .inv) (c .before .loop-test .taken) (omega arith)
-
-loop-less-2 : tie.Need-loop-less-2 Inv-loop μ-loop
-loop-less-2 c = less (c .before .before .loop .i) (c .before .loop-test .taken)
-
-loop-again-2 : tie.Need-loop-again-2 Inv-loop μ-loop
-loop-again-2 c = clear (c .before .before .before .args .n) (c .before .before .loop .r) (c .before .before .loop .i) (c .before .before .loop .inv) (c .before .loop-test .taken) (omega arith)
-
-returns : tie.Need-returns Inv-loop μ-loop
-returns c = at-end (c .before .before .args .n) (c .before .loop .r) (c .before .loop .i) (c .before .loop .inv) (c .loop-test .left)
+returns-2 : tie.Need-returns-2
+returns-2 c = search needs
 
 pub integer-root-spec : {M : Type 1} → statement M
 integer-root-spec =
     tie.close
-    (tie.spec
-    Inv-loop
-    μ-loop
-    loop-holds
-    sub-i
-    cast-t
-    shl-t
-    add-t
-    mul-if1
-    loop-less
-    loop-again
-    loop-less-2
-    loop-again-2
-    returns)
+    (tie.spec near-root-requires mul-square mul-if2 add-if2 returns root-by-digits-requires returns-2)
