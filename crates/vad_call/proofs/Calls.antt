@@ -28,7 +28,8 @@ use Rattle.vad_state.specs.Arrays.{filledOf}
 use Rattle.vad_state.specs.Kept as numbers
 use Rattle.vad_state.specs.Kept.{wholeOf}
 use Rattle.vad_state.specs.State.{windowOf, carriedOf, heldOf}
-use Rattle.vad_call.specs.Calls.{valuesOf, waitingOf, measuredFrom, measuredOf, consumedFrom, carryAfter, progressOf, holdingWith, holdingOf, keptOf, dueOf, seededOf, gridStart, framesDue, verdictOf, rowsDue, refusedBy, acceptedOf, tooMany, concludedOf, reportedIn, ranOf, rowsOfCall, writtenOf, tallyOf, advancedOf, unheardOf, listenedOf, heardOf, joinedOf, settledOf}
+use Rattle.vad_call.specs.Calls.{valuesOf, waitingOf, measuredFrom, measuredOf, consumedFrom, carryAfter, progressOf, holdingWith, holdingOf, keptOf, dueOf, seededOf, gridStart, framesDue, verdictOf, rowsDue, refusedBy, acceptedOf, tooMany, concludedOf, reportedIn, ranOf, rowsOfCall, writtenOf, tallyOf, advancedOf, joinedOf, settledOf}
+use Rattle.vad_call.specs.Inside.{unheardOf, listenedOf, heardOf}
 use Rattle.vad_state.specs.declared.VadDetector.{VadDetector}
 use Rattle.vad_call.specs.declared.Progress.{Progress}
 use Rattle.vad_call.specs.declared.Detected.{Detected}

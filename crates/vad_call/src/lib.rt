@@ -11,7 +11,8 @@ ghost use Rattle.vad_segments.specs.Closing.{roomOf, flat};
 ghost use Rattle.vad_segments.specs.Rooms.{LengthsWithin, Within};
 ghost use Rattle.vad_state.specs.Kept.{hollowOf, keptOf, wholeOf};
 ghost use Rattle.vad_state.specs.State.{soundOf};
-ghost use Rattle.vad_call.specs.Calls.{holdingWith, dueOf, seededOf, gridStart, verdictOf, rowsDue, noTally, refusedBy, tooMany, reportedIn, ranOf, writtenOf, heardOf, joinedOf, settledOf};
+ghost use Rattle.vad_call.specs.Calls.{holdingWith, dueOf, seededOf, gridStart, verdictOf, rowsDue, noTally, refusedBy, tooMany, reportedIn, ranOf, writtenOf, joinedOf, settledOf};
+ghost use Rattle.vad_call.specs.Inside.{heardOf};
 use vad_classify::Classified;
 use vad_classify::ROW_FIELDS;
 use vad_frames::Framed;
@@ -62,7 +63,7 @@ pub struct Progress {
 }
 
 // The carry, then the block's values; answers the block's last raw sample.
-pub fn gather(
+fn gather(
     carry: &[f32],
     carry_len: usize,
     coeff: f32,
@@ -79,7 +80,7 @@ pub fn gather(
 }
 
 // How many frames are held from earlier calls.
-pub fn waiting(kept: Kept) -> usize
+fn waiting(kept: Kept) -> usize
     ensures { λ r. ⌜ r ≡ cond (kept .warming) (kept .held) 0 ⌝ }
 {
     if kept.warming {
@@ -113,7 +114,7 @@ fn frame_values(
 
 // The energies held, then those of the frames in the values; answers how many they are in all, and how many values were used up.
 // The window and the warm-up have one lifetime, as two fields of one state that are lent at once.
-pub fn measure<'a>(
+fn measure<'a>(
     window: &'a [f32],
     frame_length: usize,
     hop_length: usize,
@@ -257,7 +258,7 @@ pub struct Judged {
 }
 
 // Holds the energies or judges them. No array of the state stands in what it reads or answers.
-pub fn judge(kept: Kept, received: u64, energies: &[f32], finish: bool, rows: &mut [u64]) -> Judged
+fn judge(kept: Kept, received: u64, energies: &[f32], finish: bool, rows: &mut [u64]) -> Judged
     requires { ⌜ LengthsWithin (kept .rules .lengths) × Within (2 ^ 41) (2 ^ 60) (kept .track) ⌝ }
     requires { ⌜ (kept .«carry_start» ≤ 2 ^ 41) × (received ≤ 2 ^ 41) × (length (now energies) ≤ 1024) ⌝ }
     ensures { λ r. ⌜ (r .refused ≡ tooMany (rowsDue finish (hollowOf kept) received (dueOf finish (hollowOf kept) (now (energies .entry)))) (length (now (rows .entry)))) × (r .holds ≡ holdingWith finish (hollowOf kept) (length (now (energies .entry)))) ⌝ }

@@ -1,6 +1,7 @@
 use mathlib.Core.Path.{_≡_}
 use mathlib.Core.Bool.{true, false}
-use Rattle.vad_call.specs.Calls.{tallyOf, unheardOf, listenedOf, heardOf}
+use Rattle.vad_call.specs.Calls.{tallyOf}
+use Rattle.vad_call.specs.Inside.{unheardOf, listenedOf, heardOf}
 use borrow.Author.Needs.{needs}
 use Rattle.vad_call.proofs.concluded.Statement.{statement}
 use Rattle.vad_call.proofs.concluded.Tie as tie
