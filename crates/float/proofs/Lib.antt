@@ -16,6 +16,7 @@ pub mod Near
 pub mod Twice
 pub mod Wide
 pub mod Ties
+pub mod Settling
 pub mod NearestRoot
 pub mod Unique
 pub mod Examples

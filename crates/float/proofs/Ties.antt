@@ -3,26 +3,27 @@
 use mathlib.Core.Path.{_≡_, refl, sym, ap, ap₂, _∙_, subst}
 use mathlib.Core.Logic.{inl, inr}
 use Prim.Native.Nat.{ℕ, _+_, _-_, _*_, _/_, _%_, _^_, _≤_, _<_}
-use native.Mathlib.Nat.{le-refl, lt-of-lt-of-le, lt-of-le-of-lt, mul-assoc, mul-comm, mul-one, mul-pos, le-of-mul-le-mul-right}
+use native.Mathlib.Nat.{le-refl, lt-of-lt-of-le, lt-of-le-of-lt, mul-assoc, mul-comm, mul-one, zero-mul, mul-pos, le-of-mul-le-mul-right}
 use native.Mathlib.Omega.{arith}
-use mathlib.Core.Bool.{Bool, true, false, Bool·beq, cond}
-use lib.Dec.{T, ltb, lit≤}
+use mathlib.Core.Bool.{Bool, true, false, true≢false, _&&_, _||_, Bool·beq, cond}
+use lib.Dec.{T, leb, ltb, eqb, lit≤}
+use borrow.Author.Tests.{leb-true, eqb-true}
 use lib.Pow.{pow-add, pow-pos, pow-mono, shl-lt}
-use lib.Ieee.{Float, nan, inf, fin, Format, binary32, binary64, unlike, up, down, round, sum, mul, fits, toBits, ofBits}
+use lib.Ieee.{Float, nan, inf, fin, Format, binary32, binary64, unlike, up, down, round, sum, fits, toBits, ofBits}
 use lib.Ieee.Nearest.{closest, closest-same}
 use lib.Ieee.Scale.{finite}
-use Rattle.float.specs.declared.Rounded.{Rounded}
-use Rattle.float.specs.declared.Rounded.the-variants.{Finite, Nothing}
+use Rattle.float.specs.declared.Rounded.the-variants.{Finite}
 use Rattle.float.specs.Finite.{rounded}
 use Rattle.float.specs.Fused.{fusedOf}
-use Rattle.float.specs.Inside.{M, Q, magOf, negOf, WideOf, Halved, Tried}
+use Rattle.float.specs.Inside.{fieldOf, significandAt, M, Q, magOf, negOf}
+use Rattle.float.specs.Settled.{exactOf}
 use Rattle.float.proofs.Sticky.{side, nearest-eq, closest-down, pow-lt-back, Dropped}
 use Rattle.float.proofs.Decode.{decoded, significand-lt}
 use Rattle.float.proofs.Align.{exact}
 use Rattle.float.proofs.Exact.{parts-sum}
 use Rattle.float.proofs.Fuse.{mul-small}
 use Rattle.float.proofs.Twice.{Seen, seen, narrow-at}
-use Rattle.float.proofs.Wide.{Wide, mul-finite, add-finite, bits-finite, wide-is}
+use Rattle.float.proofs.Wide.{Wide, wide-is}
 
 -- ---- q units exactly, and q in the middle of two multiples of 2^29: the even one
 tie-closest : (n u q : ℕ) → 0 < u → n ≡ q * u → q % 0x2000_0000 ≡ 0x1000_0000 → closest n (u * 0x2000_0000) ≡ q / 0x2000_0000 + q / 0x2000_0000 % 2
@@ -76,14 +77,6 @@ tie-round s w e b small f lo hi m = go (seen s (w * 2 ^ e) (2 ^ 314) b (pow-pos 
         narrow-at s (w * 2 ^ e) (2 ^ 314) (v .k) j r (pow-pos 314) (v .dropped) (omega arith) (tie-closest n u (v .q) (mul-pos (pow-pos 314) (pow-pos (v .k))) q-is (omega arith)) (omega arith) (omega arith) (omega arith)
         ∙ ap (λ (x : ℕ). Finite (ofBits binary32 x)) (ap₂ (λ (x y : ℕ). x + y) (sym (v .sign-is)) (omega arith))
 
--- ---- the contract of `halved`, for each of its answers; m is the code's own number
-pub none : (b : ℕ) → Halved b Nothing
-none b x e = absurd (let z : _≡_ {A = ℕ} 0 1 = cc in omega arith)
-
-pub some : (b m : ℕ) → 0x3810_0000_0000_0000 < b % 0x8000_0000_0000_0000 → b % 0x8000_0000_0000_0000 < 0x47ef_ffff_e000_0000 → b % 0x8000_0000_0000_0000 % 0x2000_0000 ≡ 0x1000_0000
-    → b % 0x8000_0000_0000_0000 / 0x2000_0000 + b % 0x8000_0000_0000_0000 / 0x2000_0000 % 2 - 0x1_c000_0000 ≡ m → Halved b (Finite (ofBits binary32 (b / 0x8000_0000_0000_0000 * 0x8000_0000 + m)))
-some b m lo hi on is x e = (lt-of-lt-of-le hi (lit≤ tt), λ s w i h f. tie-round s w i b h f lo hi on ∙ ap (λ (y : ℕ). Finite (ofBits binary32 (b / 0x8000_0000_0000_0000 * 0x8000_0000 + y))) is)
-
 -- ---- a and b are whole numbers of one unit, and not more than 53 digits together
 abbrev Near : ℕ → ℕ → Type 0
 Near a b = (x : ℕ) × (y : ℕ) × (e : ℕ) × (a ≡ x * 2 ^ e) × (b ≡ y * 2 ^ e) × (x + y < 2 ^ 53)
@@ -113,6 +106,29 @@ near p m i j P M lo hi = elim (side j i) [
     sums' : (x y : ℕ) → x < 2 ^ 48 → y < 2 ^ 52 → x + y < 2 ^ 53
     sums' x y h g = omega arith
 
+-- by the code's test of the three patterns; an addend that is zero stands anywhere
+near-of : (x y z : ℕ) → exactOf x y z ≡ true → Near (M x * M y * 2 ^ (Q x + Q y + 14)) (M z * 2 ^ (Q z + 164))
+unfolding exactOf
+near-of x y z h = go (eqb (z % 0x8000_0000) 0) refl (leb (Q x + Q y) (Q z + 154)) refl (leb (Q z + 122) (Q x + Q y)) refl h
+  where
+    small : M x * M y < 2 ^ 48
+    small = mul-small (M x) (M y) (significand-lt x) (significand-lt y)
+
+    nothing : z % 0x8000_0000 ≡ 0 → M z ≡ 0
+    nothing e =
+        let f : fieldOf z ≡ 0 = omega arith in
+        let t : z % 8388608 ≡ 0 = omega arith in
+        ap₂ significandAt f t
+
+    sums : (p : ℕ) → p < 2 ^ 48 → p + 0 < 2 ^ 53
+    sums p h = omega arith
+
+    go : (a : Bool) → eqb (z % 0x8000_0000) 0 ≡ a → (b : Bool) → leb (Q x + Q y) (Q z + 154) ≡ b → (c : Bool) → leb (Q z + 122) (Q x + Q y) ≡ c → a || (b && c) ≡ true → Near (M x * M y * 2 ^ (Q x + Q y + 14)) (M z * 2 ^ (Q z + 164))
+    go true e b f c g h = (M x * M y, 0, Q x + Q y + 14, refl, rw (nothing (eqb-true (z % 0x8000_0000) 0 e), zero-mul (2 ^ (Q z + 164)), zero-mul (2 ^ (Q x + Q y + 14))), sums (M x * M y) small)
+    go false e true f true g h = near (M x * M y) (M z) (Q x + Q y + 14) (Q z + 164) small (significand-lt z) (let l = leb-true (Q x + Q y) (Q z + 154) f in omega arith) (let l = leb-true (Q z + 122) (Q x + Q y) g in omega arith)
+    go false e true f false g h = absurd (true≢false (sym h))
+    go false e false f c g h = absurd (true≢false (sym h))
+
 mag-le : (s : Bool) (x : ℕ) (t : Bool) (y : ℕ) → magOf s x t y ≤ x + y
 mag-le s x t y = go (Bool·beq s t) (ltb x y)
   where
@@ -131,43 +147,29 @@ near-sum f s t a b (x, y, e, p, q, h) =
     none e = omega arith
 
 -- ---- the f32 that the pattern of an exact middle gives is the fused result
-settled : (a b c : Float) (r : Rounded) (x : Float) → T (fits binary32 a) → T (fits binary32 b) → T (fits binary32 c) → T (finite a) × T (finite b) → T (finite c)
-    → Near (M (toBits binary32 a) * M (toBits binary32 b) * 2 ^ (Q (toBits binary32 a) + Q (toBits binary32 b) + 14)) (M (toBits binary32 c) * 2 ^ (Q (toBits binary32 c) + 164))
-    → Halved (toBits binary64 (Wide a b c)) r → r ≡ Finite x → r ≡ fusedOf a b c
+pub tie-fused : (a b c : Float) → T (fits binary32 a) → T (fits binary32 b) → T (fits binary32 c) → T (finite a) × T (finite b) → T (finite c)
+    → exactOf (toBits binary32 a) (toBits binary32 b) (toBits binary32 c) ≡ true → (w : ℕ) → toBits binary64 (Wide a b c) ≡ w
+    → 0x3810_0000_0000_0000 < w % 0x8000_0000_0000_0000 → w % 0x8000_0000_0000_0000 < 0x47ef_ffff_e000_0000 → w % 0x8000_0000_0000_0000 % 0x2000_0000 ≡ 0x1000_0000
+    → fusedOf a b c ≡ Finite (ofBits binary32 (w / 0x8000_0000_0000_0000 * 0x8000_0000 + (w % 0x8000_0000_0000_0000 / 0x2000_0000 + w % 0x8000_0000_0000_0000 / 0x2000_0000 % 2 - 0x1_c000_0000)))
 unfolding fusedOf
-settled nan b c r x p q o f g k h e = absurd (f .0)
-settled (inf s) b c r x p q o f g k h e = absurd (f .0)
-settled (fin s m i) nan c r x p q o f g k h e = absurd (f .1)
-settled (fin s m i) (inf t) c r x p q o f g k h e = absurd (f .1)
-settled (fin s m i) (fin t n j) nan r x p q o f g k h e = absurd g
-settled (fin s m i) (fin t n j) (inf u) r x p q o f g k h e = absurd g
-settled (fin s m i) (fin t n j) (fin u l v) r x p q o f g k h e =
+tie-fused nan b c p q o f g k w e lo hi on = absurd (f .0)
+tie-fused (inf s) b c p q o f g k w e lo hi on = absurd (f .0)
+tie-fused (fin s m i) nan c p q o f g k w e lo hi on = absurd (f .1)
+tie-fused (fin s m i) (inf t) c p q o f g k w e lo hi on = absurd (f .1)
+tie-fused (fin s m i) (fin t n j) nan p q o f g k w e lo hi on = absurd g
+tie-fused (fin s m i) (fin t n j) (inf u) p q o f g k w e lo hi on = absurd g
+tie-fused (fin s m i) (fin t n j) (fin u l v) p q o f g k w e lo hi on =
     let a = toBits binary32 (fin s m i) in
     let b = toBits binary32 (fin t n j) in
     let c = toBits binary32 (fin u l v) in
-    let w = unlike s t in
+    let r = unlike s t in
     let y = M a * M b * 2 ^ (Q a + Q b + 14) in
     let z = M c * 2 ^ (Q c + 164) in
+    let h = near-of a b c k in
     let da = decoded (fin s m i) p in
     let db = decoded (fin t n j) q in
-    let same : (f : Format) → sum f w (m * up i * (n * up j) * down v) u (l * up v * (down i * down j)) (down i * down j * down v) ≡ round f (negOf w (k .0) u (k .1)) (magOf w (k .0) u (k .1) * 2 ^ k .2) (2 ^ 314)
-    = λ f. parts-sum f w u s m i t n j u l v a b c da db (decoded (fin u l v) o) ∙ near-sum f w u y z k in
-    sym (ap rounded (same binary32)
-    ∙ h x e .1 (negOf w (k .0) u (k .1)) (magOf w (k .0) u (k .1)) (k .2) (lt-of-le-of-lt (mag-le w (k .0) u (k .1)) (k .5))
-    (ap (toBits binary64) (sym (wide-is s m i t n j u l v a b da db ∙ same binary64))))
-
--- w is what `wide_bits` answers, and the places of the product and the addend are near
-pub tie-fused : (a b c : Float) (w : ℕ) (r : Rounded) → T (fits binary32 a) → T (fits binary32 b) → T (fits binary32 c)
-    → Q (toBits binary32 a) + Q (toBits binary32 b) ≤ Q (toBits binary32 c) + 154 → Q (toBits binary32 c) + 122 ≤ Q (toBits binary32 a) + Q (toBits binary32 b)
-    → WideOf w a b c → Halved w r → Tried r (fusedOf a b c)
-tie-fused a b c w r p q o lo hi (inl k) h x e = absurd (let l = h x e .0 in omega arith)
-tie-fused a b c w r p q o lo hi (inr k) h x e =
-    let g : Halved (toBits binary64 (Wide a b c)) r = subst (λ (n : ℕ). Halved n r) k h in
-    let f = add-finite binary64 (mul binary64 a b) c (bits-finite (Wide a b c) (g x e .0)) in
-    let i = toBits binary32 a in
-    let j = toBits binary32 b in
-    let l = toBits binary32 c in
-    settled a b c r x p q o (mul-finite binary64 a b (f .0)) (f .1) (near (M i * M j) (M l) (Q i + Q j + 14) (Q l + 164) (mul-small (M i) (M j) (significand-lt i) (significand-lt j)) (significand-lt l) (omega arith) (omega arith)) g e
-
-pub untried : (v : Rounded) → Tried Nothing v
-untried v x e = absurd (let z : _≡_ {A = ℕ} 0 1 = cc in omega arith)
+    let same : (f : Format) → sum f r (m * up i * (n * up j) * down v) u (l * up v * (down i * down j)) (down i * down j * down v) ≡ round f (negOf r (h .0) u (h .1)) (magOf r (h .0) u (h .1) * 2 ^ h .2) (2 ^ 314)
+    = λ f. parts-sum f r u s m i t n j u l v a b c da db (decoded (fin u l v) o) ∙ near-sum f r u y z h in
+    ap rounded (same binary32)
+    ∙ tie-round (negOf r (h .0) u (h .1)) (magOf r (h .0) u (h .1)) (h .2) w (lt-of-le-of-lt (mag-le r (h .0) u (h .1)) (h .5))
+    (ap (toBits binary64) (sym (wide-is s m i t n j u l v a b da db ∙ same binary64)) ∙ e) lo hi on

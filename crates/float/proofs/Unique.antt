@@ -1,14 +1,16 @@
 -- Two answers that meet a contract are equal: each contract here is an equation of the answer.
 use mathlib.Core.Path.{_≡_, sym, _∙_}
-use mathlib.Core.Bool.{Bool}
+use mathlib.Core.Bool.{Bool, _&&_}
 use Prim.Native.Nat.{ℕ}
 use lib.IntN.{pos}
 use lib.Ieee.{Float, binary32, ofBits, toBits, ofInt}
 use lib.Ieee.Scale.{finite}
 use Rattle.float.specs.declared.Rounded.{Rounded}
+use Rattle.float.specs.declared.quick.Quick.{Quick}
 use Rattle.float.specs.Finite.{orElse, orZero}
 use Rattle.float.specs.Fused.{fusedOf}
 use Rattle.float.specs.Root.{rootOf}
+use Rattle.float.specs.Settled.{quickOf}
 use Rattle.float.specs.Whole.{roundOf, ceilOf}
 
 -- for a contract `r ≡ a` of any type
@@ -20,6 +22,12 @@ mul-add-unique a b c r q = only
 
 pub mul-add-or-unique : (a b c other r q : Float) → r ≡ orElse other (fusedOf a b c) → q ≡ orElse other (fusedOf a b c) → r ≡ q
 mul-add-or-unique a b c other r q = only
+
+pub quick-sum-unique : (a b c : Float) (r q : Quick) → r ≡ quickOf a b c → q ≡ quickOf a b c → r ≡ q
+quick-sum-unique a b c r q = only
+
+pub both-unique : (a b r q : Bool) → r ≡ (a && b) → q ≡ (a && b) → r ≡ q
+both-unique a b r q = only
 
 pub sqrt-unique : (x : Float) (r q : Rounded) → r ≡ rootOf x → q ≡ rootOf x → r ≡ q
 sqrt-unique x r q = only

@@ -59,11 +59,3 @@ WideOf w a b c = (w ≡ 0x7ff8_0000_0000_0000) ⊎ (w ≡ toBits binary64 (add b
 -- An f64's pattern b settles a fraction's f32: r, where it is a number, is the f32 of every fraction whose nearest f64 has that pattern, and b is no infinity's.
 abbrev pub Narrowed : ℕ → Rounded → Type 0
 Narrowed b r = (x : Float) → r ≡ Finite x → (b % 0x8000_0000_0000_0000 < 0x7ff0_0000_0000_0000) × ((s : Bool) (n c : ℕ) → 0 < c → toBits binary64 (round binary64 s n c) ≡ b → rounded (round binary32 s n c) ≡ r)
-
--- The same of a fraction that loses nothing in f64, for an f64 in the middle of two f32: a significand of at most 53 digits, over the one denominator 2 ^ 314.
-abbrev pub Halved : ℕ → Rounded → Type 0
-Halved b r = (x : Float) → r ≡ Finite x → (b % 0x8000_0000_0000_0000 < 0x7ff0_0000_0000_0000) × ((s : Bool) (w e : ℕ) → w < 2 ^ 53 → toBits binary64 (round binary64 s (w * 2 ^ e) (2 ^ 314)) ≡ b → rounded (round binary32 s (w * 2 ^ e) (2 ^ 314)) ≡ r)
-
--- r is v where it is a number; the word says only that v was not found
-abbrev pub Tried : Rounded → Rounded → Type 0
-Tried r v = (x : Float) → r ≡ Finite x → r ≡ v

@@ -4,3 +4,4 @@ pub mod Root
 pub mod Nearest
 pub mod Whole
 pub mod Inside
+pub mod Settled

@@ -2,8 +2,8 @@
 // first, which settles nearly every result. And the roundings to whole numbers that settings and rows need.
 mod bits;
 mod fused;
-mod middle;
 mod narrow;
+pub mod quick;
 mod root;
 mod rounding;
 pub mod whole;
@@ -73,7 +73,7 @@ pub fn mul_add_or(a: f32, b: f32, c: f32, other: f32) -> f32
     let quick = narrow::narrowed(narrow::wide_bits(a, b, c));
     match quick {
         Rounded::Finite(x) => x,
-        Rounded::Nothing => unsettled_or(a, b, c, other),
+        Rounded::Nothing => or_else(whole_mul_add(a, b, c), other),
     }
 }
 
@@ -87,18 +87,7 @@ pub fn mul_add(a: f32, b: f32, c: f32) -> Rounded
     Rounded::Finite(sum)
 }
 
-// The same where the f64 alone does not settle it, and apart from it, so that the quick way stays short. A sum that is exactly a middle needs no whole numbers.
-fn unsettled_or(a: f32, b: f32, c: f32, other: f32) -> f32
-    ensures { λ r. ⌜ r ≡ orElse other (fusedOf a b c) ⌝ }
-{
-    let middle = middle::middle_sum(a, b, c);
-    match middle {
-        Rounded::Finite(y) => y,
-        Rounded::Nothing => or_else(whole_mul_add(a, b, c), other),
-    }
-}
-
-// The same in whole numbers: where the f64 is a middle that the sum only lies near to, or a subnormal or an overflow in f32.
+// The same in whole numbers: where the f64 is a middle of two f32, or a subnormal or an overflow in f32.
 fn whole_mul_add(a: f32, b: f32, c: f32) -> Rounded
     ensures { λ r. ⌜ r ≡ fusedOf a b c ⌝ }
 {

@@ -1,8 +1,9 @@
 -- A fact of every element of a list, and `map` over a list in parts. Theorems only; assumes nothing.
 use mathlib.Core.Path.{_≡_, refl, ap}
 use mathlib.Core.List.{List, [], _∷_, _++_, map}
-use Prim.Native.Nat.{ℕ, zero, suc}
-use lib.ListN.{length, take, drop}
+use Prim.Native.Nat.{ℕ, zero, suc, _<_}
+use native.Mathlib.Nat.{not-suc-le-zero, le-of-suc-le-suc}
+use lib.ListN.{length, take, drop, getD}
 
 module _ {A : Type 0} where
   abbrev pub Every : (A → Type 0) → List A → Type 0
@@ -25,6 +26,12 @@ module _ {A : Type 0} where
     every-drop zero xs h = h
     every-drop (suc n) [] h = h
     every-drop (suc n) (x ∷ xs) h = every-drop n xs (h .1)
+
+    -- of one
+    pub every-at : (i : ℕ) (d : A) (xs : List A) → Every P xs → i < length xs → P (getD xs i d)
+    every-at i d [] h l = absurd (not-suc-le-zero l)
+    every-at zero d (x ∷ xs) h l = h .0
+    every-at (suc i) d (x ∷ xs) h l = every-at i d xs (h .1) (le-of-suc-le-suc l)
 
   -- a weaker fact
   pub every-map : (P Q : A → Type 0) → ((x : A) → P x → Q x) → (xs : List A) → Every P xs → Every Q xs

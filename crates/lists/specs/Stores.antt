@@ -1,12 +1,12 @@
 -- Stores into a lent slice, one after the other: `sets l i vs` of lib.Seq, for any element. Theorems only; assumes nothing.
-use mathlib.Core.Path.{_≡_, _∙_}
+use mathlib.Core.Path.{_≡_, sym, ap, _∙_}
 use mathlib.Core.List.{List, [], _∷_, _++_}
 use Prim.Native.Nat.{ℕ, suc, _+_, _-_, _≤_, _<_}
 use native.Mathlib.Nat.{zero-add, add-zero}
 use native.Mathlib.Numerals.{add-one}
 use native.Mathlib.Omega.{arith}
-use lib.ListN.{length, take, drop, set, replicate}
-use lib.Seq.{sets, sets-eq}
+use lib.ListN.{length, take, drop, set, replicate, length-set}
+use lib.Seq.{sets, sets-eq, drop-set-lt}
 
 module _ {A : Type 0} where
   -- one store, and the rest after it
@@ -20,6 +20,12 @@ module _ {A : Type 0} where
   -- from the slice's start
   pub sets-all : (l vs : List A) → length vs ≤ length l → sets l 0 vs ≡ vs ++ drop (length vs) l
   sets-all l vs h = rw (sets-eq vs l 0 (omega arith), zero-add (length vs))
+
+  -- what a store left does not show where it is written over
+  pub sets-over : (l : List A) (i : ℕ) (v : A) (vs : List A) → i < length vs → length vs ≤ length l → sets (set l i v) 0 vs ≡ sets l 0 vs
+  sets-over l i v vs h k =
+      let e : length (set l i v) ≡ length l = simp length-set in
+      sets-all (set l i v) vs (omega arith) ∙ ap (λ (r : List A). vs ++ r) (drop-set-lt (length vs) l i v h) ∙ sym (sets-all l vs k)
 
   -- one element over and over: a turn of such a loop, and its end
   pub clear-step : (l : List A) (i n : ℕ) (z : A) → i < n → sets (set l i z) (i + 1) (replicate (n - (i + 1)) z) ≡ sets l i (replicate (n - i) z)

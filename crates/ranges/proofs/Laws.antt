@@ -4,11 +4,13 @@ use mathlib.Core.Bool.{Bool, true, false, _&&_, cond, true≢false}
 use mathlib.Core.List.{List, [], _∷_}
 use Prim.Native.Nat.{suc, _≤_}
 use native.Mathlib.Omega.{arith}
+use lib.Dec.{T}
 use lib.ListN.{length}
 use lib.Ieee.{Float, ofBits, le, neg}
+use lib.Ieee.Scale.{finite}
 use Rattle.lists.specs.Every.{Every, every-map}
 use Rattle.float.proofs.Words.{T-of}
-use Rattle.float.proofs.Bounds.{Mag, mag-of-range}
+use Rattle.float.proofs.Bounds.{Mag, mag-of-range, mag-finite}
 use Rattle.ranges.specs.Ranges.{within, leadingOf, allWithin, limit, inDomain, cleanOf}
 
 pub both : (a b : Bool) → a && b ≡ true → (a ≡ true) × (b ≡ true)
@@ -67,3 +69,7 @@ clean-all xs h = leading-all (neg limit) limit xs h
 
 pub clean-mags : (xs : List Float) → length xs ≤ cleanOf xs → Every (λ x. Mag x 65536 1) xs
 clean-mags xs h = every-map _ _ sample-mag xs (clean-all xs h)
+
+pub all-finite : (xs : List Float) → allWithin (neg limit) xs limit ≡ true → Every (λ (x : Float). T (finite x)) xs
+unfolding inDomain
+all-finite xs h = every-map _ _ (λ x w. mag-finite x 65536 1 (sample-mag x w)) xs (all-within (neg limit) limit xs h)

@@ -1,22 +1,13 @@
 // Ranges of floats: one number, and a slice up to the first number outside.
 ghost use mathlib.Core.Path.{_≡_};
-ghost use mathlib.Core.Bool.{_&&_};
 ghost use Rattle.ranges.specs.Ranges.{within, leadingOf, allWithin, cleanOf};
+use float::quick::both;
 
 pub fn inside(low: f32, x: f32, high: f32) -> bool
     ensures { λ r. ⌜ r ≡ within low x high ⌝ }
 {
     if low <= x {
         return x <= high;
-    }
-    false
-}
-
-fn both(a: bool, b: bool) -> bool
-    ensures { λ r. ⌜ r ≡ (a && b) ⌝ }
-{
-    if a {
-        return b;
     }
     false
 }

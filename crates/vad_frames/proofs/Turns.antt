@@ -9,7 +9,12 @@ use native.Mathlib.Numerals.{add-one}
 use native.Mathlib.Omega.{arith}
 use lib.ListN.{length, take, drop, getD, drop-of-length-le, length-drop}
 use lib.Seq.{take-all, take-length, drop-cons, drop-drop}
-use lib.Ieee.{Float, nan, binary32, add}
+use lib.Dec.{T}
+use lib.Ieee.{Float, nan, inf, fin, binary32, add, neg}
+use lib.Ieee.Scale.{finite}
+use Rattle.float.specs.declared.Rounded.the-variants.{Finite}
+use Rattle.float.specs.Finite.{orZero}
+use Rattle.float.specs.Fused.{fusedOf}
 use Rattle.float.proofs.Sticky.{side}
 use Rattle.vad_frames.specs.Emphasis.{emphasizedOf, emphasized, lastOf}
 use Rattle.vad_frames.specs.Energy.{squareOf, squaresFrom, energyOf}
@@ -19,10 +24,6 @@ use Rattle.vad_frames.specs.Grid.{taken, framesFrom, framesOf, energiesO
 pub emphasized-end : (a p : Float) (i : ℕ) (xs : List Float) → length xs ≤ i → emphasized a p (drop i xs) ≡ []
 unfolding emphasized
 emphasized-end a p i xs h = rw (drop-of-length-le xs h)
-
-pub last-end : (p : Float) (i : ℕ) (xs : List Float) → length xs ≤ i → lastOf p (drop i xs) ≡ p
-unfolding lastOf
-last-end p i xs h = rw (drop-of-length-le xs h)
 
 pub squares-end : (t : Float) (i : ℕ) (xs ws : List Float) → length xs ≤ i → squaresFrom t (drop i xs) (drop i ws) ≡ t
 unfolding squaresFrom
@@ -36,9 +37,31 @@ module _ (i : ℕ) (xs : List Float) (h : i < length xs) where
   unfolding emphasized
   emphasized-step a p = rw (next, drop-cons xs i nan)
 
-  pub last-step : (p : Float) → lastOf p (drop i xs) ≡ lastOf (getD xs i nan) (drop (i + 1) xs)
-  unfolding lastOf
-  last-step p = rw (next, drop-cons xs i nan)
+-- ---- sums that are settled
+pub finite-neg : (x : Float) → T (finite x) → T (finite (neg x))
+unfolding neg
+finite-neg nan h = h
+finite-neg (inf s) h = h
+finite-neg (fin s m e) h = tt
+
+pub settled-is : (a p x y : Float) → Finite y ≡ fusedOf a (neg p) x → y ≡ emphasizedOf a p x
+unfolding emphasizedOf
+settled-is a p x y h = ap orZero h
+
+-- ---- the last raw sample
+pub last-none : (p : Float) (xs : List Float) → length xs ≡ 0 → p ≡ lastOf p xs
+unfolding lastOf
+last-none p [] h = refl
+last-none p (x ∷ xs) h = absurd (omega arith)
+
+pub last-is : (p : Float) (xs : List Float) → 0 < length xs → getD xs (length xs - 1) nan ≡ lastOf p xs
+unfolding lastOf
+last-is p [] h = absurd (omega arith)
+last-is p (x ∷ xs) h = let e : length (x ∷ xs) - 1 ≡ length xs = omega arith in rw e (go x xs)
+  where
+    go : (x : Float) (xs : List Float) → getD (x ∷ xs) (length xs) nan ≡ lastOf x xs
+    go x [] = refl
+    go x (y ∷ ys) = go y ys
 
 pub squares-step : (t : Float) (i : ℕ) (xs ws : List Float) → i < length xs → i < length ws
     → squaresFrom (add binary32 t (squareOf (getD xs i nan) (getD ws i nan))) (drop (i + 1) xs) (drop (i + 1) ws) ≡ squaresFrom t (drop i xs) (drop i ws)

@@ -1,3 +1,4 @@
 pub mod Emphasis
 pub mod Energy
 pub mod Grid
+pub mod Inside

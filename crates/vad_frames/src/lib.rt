@@ -1,11 +1,15 @@
 // Pre-emphasis and the energies of frames: `pre_emphasize` and `frame_signal` of the Rust's src/vad/detector.rs.
 ghost use mathlib.Core.Path.{_≡_};
+ghost use mathlib.Core.Bool.{true};
 ghost use Prim.Native.Nat.{_≤_, min};
 ghost use lib.ListN.{length};
 ghost use lib.Seq.{sets};
 ghost use Rattle.vad_frames.specs.Emphasis.{coefficientOf, emphasizedOf, emphasized, lastOf};
 ghost use Rattle.vad_frames.specs.Energy.{zero, squaresFrom, energyOf};
 ghost use Rattle.vad_frames.specs.Grid.{taken, framesOf, energiesOf, framedOf};
+ghost use Rattle.vad_frames.specs.Inside.{Operands, SamePast};
+use float::quick::both;
+use float::quick::quick_sum;
 
 // How many frames a call took, and how many of its values they used up.
 pub struct Framed {
@@ -29,10 +33,54 @@ fn emphasize(coeff: f32, previous: f32, sample: f32) -> f32
     float::mul_add_or(coeff, -previous, sample, 0.0)
 }
 
-// Writes a block's values and answers its last raw sample, which the next block's first is emphasized with.
-pub fn pre_emphasize(coeff: f32, previous: f32, samples: &[f32], values: &mut [f32]) -> f32
+// Whether each operand of a block's sums is a finite number.
+fn all_finite(coeff: f32, previous: f32, samples: &[f32]) -> bool
+    ensures { λ r. ⌜ (r ≡ true → Operands coeff previous (now (samples .entry))) ⌝ }
+{
+    if !float::is_finite(coeff) {
+        return false;
+    }
+    if !float::is_finite(previous) {
+        return false;
+    }
+    ranges::all_inside(-65536.0, samples, 65536.0)
+}
+
+// Writes the sums that the processor's f64 gives, several at once, and answers whether it settles them all.
+fn settle_finite(coeff: f32, previous: f32, samples: &[f32], values: &mut [f32]) -> bool
+    requires { ⌜ (length (now samples) ≤ length (now values)) × Operands coeff previous (now samples) ⌝ }
+    ensures { λ r. ⌜ (r ≡ true → now (values .exit) ≡ sets (now (values .entry)) 0 (emphasized coeff previous (now (samples .entry)))) ⌝ }
+    ensures { λ _. ⌜ SamePast (length (now (samples .entry))) (now (values .exit)) (now (values .entry)) ⌝ }
+{
+    let mut all = true;
+    let mut prior = previous;
+    let mut i = 0;
+    while i < samples.len() {
+        let sample = samples[i];
+        let quick = quick_sum(coeff, -prior, sample);
+        values[i] = quick.sum;
+        all = both(all, quick.settled);
+        prior = sample;
+        i += 1;
+    }
+    all
+}
+
+// The same of any operands; where it answers no, the values are not to be used.
+fn settle(coeff: f32, previous: f32, samples: &[f32], values: &mut [f32]) -> bool
     requires { ⌜ length (now samples) ≤ length (now values) ⌝ }
-    ensures { λ r. ⌜ r ≡ lastOf previous (now (samples .entry)) ⌝ }
+    ensures { λ r. ⌜ (r ≡ true → now (values .exit) ≡ sets (now (values .entry)) 0 (emphasized coeff previous (now (samples .entry)))) ⌝ }
+    ensures { λ _. ⌜ SamePast (length (now (samples .entry))) (now (values .exit)) (now (values .entry)) ⌝ }
+{
+    if all_finite(coeff, previous, samples) {
+        return settle_finite(coeff, previous, samples, values);
+    }
+    false
+}
+
+// One sum after the other, whatever the operands are.
+fn emphasize_each(coeff: f32, previous: f32, samples: &[f32], values: &mut [f32])
+    requires { ⌜ length (now samples) ≤ length (now values) ⌝ }
     ensures { λ _. ⌜ now (values .exit) ≡ sets (now (values .entry)) 0 (emphasized coeff previous (now (samples .entry))) ⌝ }
 {
     let mut last = previous;
@@ -44,7 +92,28 @@ pub fn pre_emphasize(coeff: f32, previous: f32, samples: &[f32], values: &mut [f
         last = sample;
         i += 1;
     }
-    last
+}
+
+fn last_sample(previous: f32, samples: &[f32]) -> f32
+    ensures { λ r. ⌜ r ≡ lastOf previous (now (samples .entry)) ⌝ }
+{
+    if samples.len() == 0 {
+        return previous;
+    }
+    samples[samples.len() - 1]
+}
+
+// Writes a block's values and answers its last raw sample, which the next block's first is emphasized with.
+pub fn pre_emphasize(coeff: f32, previous: f32, samples: &[f32], values: &mut [f32]) -> f32
+    requires { ⌜ length (now samples) ≤ length (now values) ⌝ }
+    ensures { λ r. ⌜ r ≡ lastOf previous (now (samples .entry)) ⌝ }
+    ensures { λ _. ⌜ now (values .exit) ≡ sets (now (values .entry)) 0 (emphasized coeff previous (now (samples .entry))) ⌝ }
+{
+    if settle(coeff, previous, samples, values) {
+        return last_sample(previous, samples);
+    }
+    emphasize_each(coeff, previous, samples, values);
+    last_sample(previous, samples)
 }
 
 // Left to right. A square is never negative, so the zero that the sum begins from, −0 in the Rust, does not show.

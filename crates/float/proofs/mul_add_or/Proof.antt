@@ -19,8 +19,11 @@ enum-known-quick c = search needs
 enum-told : tie.Need-enum-told
 enum-told c = search needs
 
-unsettled-or-requires : tie.Need-unsettled-or-requires
-unsettled-or-requires c κs = search needs
+whole-mul-add-requires : tie.Need-whole-mul-add-requires
+whole-mul-add-requires c κs = search needs
+
+or-else-requires : tie.Need-or-else-requires
+or-else-requires c κs = search needs
 
 returns : tie.Need-returns
 returns c =
@@ -31,7 +34,7 @@ returns c =
     ap (orElse (a .args .other)) (sym e ∙ f)
 
 returns-2 : tie.Need-returns-2
-returns-2 c = c .unsettled-or .ensures
+returns-2 c = c .or-else .ensures ∙ ap (orElse (c .before .before .before .before .before .before .args .other)) (c .before .whole-mul-add .ensures)
 
 pub mul-add-or-spec : {M : Type 1} → statement M
 mul-add-or-spec =
@@ -41,6 +44,7 @@ mul-add-or-spec =
     narrowed-requires
     enum-known-quick
     enum-told
-    unsettled-or-requires
+    whole-mul-add-requires
+    or-else-requires
     returns
     returns-2)
