@@ -55,6 +55,9 @@ struct Seen {
     /// Calls after which a segment was open.
     open: u64,
     warming: u64,
+    /// Pre-emphasized values that before rounding lie halfway between two floats, and those below the normal floats.
+    halfway: u64,
+    subnormal: u64,
 }
 
 impl AddAssign for Seen {
@@ -76,6 +79,8 @@ impl AddAssign for Seen {
         self.restored += other.restored;
         self.open += other.open;
         self.warming += other.warming;
+        self.halfway += other.halfway;
+        self.subnormal += other.subnormal;
     }
 }
 
@@ -84,7 +89,8 @@ impl Seen {
         format!(
             "{} samples compared in {} detects, {} flushes and {} resets of {} settings: {} frames, {} of them loud, {} rows ({} too long to compare \
              the confidence, which differs by at most {} millionths in the others); a segment was open after {} calls, {} calls were in the warm-up; {} \
-             states stored and brought back; {} calls refused (13: {}, 15: {}, 16: {}, 18: {}); 0 differences",
+             states stored and brought back; {} calls refused (13: {}, 15: {}, 16: {}, 18: {}); {} pre-emphasized values lay halfway between two floats, {} \
+             were subnormal; 0 differences",
             self.samples,
             self.detects,
             self.flushes,
@@ -103,7 +109,22 @@ impl Seen {
             self.refused_15,
             self.refused_16,
             self.refused_18,
+            self.halfway,
+            self.subnormal,
         )
+    }
+
+    /// Looks at a block's pre-emphasized values in f64.
+    fn meet(&mut self, config: &VadConfig, block: &[f32]) {
+        let coefficient = f64::from(config.pre_emphasis.unwrap_or(0.0));
+        for pair in block.windows(2) {
+            let value = f64::from(pair[1]) - coefficient * f64::from(pair[0]);
+            if value.abs() >= f64::from(f32::MIN_POSITIVE) {
+                self.halfway += u64::from(value.to_bits() & 0x1fff_ffff == 0x1000_0000);
+            } else {
+                self.subnormal += u64::from(value != 0.0);
+            }
+        }
     }
 }
 
@@ -364,6 +385,7 @@ fn run(seed: u64, samples: u64, calls: u64, seen: &mut Seen) {
         for sample in &mut block[..length] {
             *sample = sound.next_sample();
         }
+        seen.meet(&config, &block[..length]);
         sides.call(Some(&block[..length]), &mut random, seen);
         seen.detects += 1;
         heard += length as u64;
@@ -387,6 +409,8 @@ fn covered(seen: &Seen) {
         seen.refused_18,
         seen.loud,
         seen.frames - seen.loud,
+        seen.halfway,
+        seen.subnormal,
     ];
     assert!(counts.iter().all(|count| *count > 0), "{seen:?}");
 }

@@ -196,6 +196,8 @@ pub struct Sound {
     level: f32,
     left: u32,
     at: u32,
+    /// Samples are whole numbers of 1 / 32,768, as a recorder has them: many pre-emphasized values then lie halfway between two floats.
+    sixteen_bit: bool,
 }
 
 impl Sound {
@@ -208,6 +210,7 @@ impl Sound {
         let ratios = [config.activation_ratio, config.release_ratio];
         let frame = config.frame_length_samples().expect("accepted") as i32;
         let usual = Wave::any(&mut random);
+        let sixteen_bit = random.one_in(3);
         Sound {
             random,
             background,
@@ -218,6 +221,7 @@ impl Sound {
             level: 0.0,
             left: 0,
             at: 0,
+            sixteen_bit,
         }
     }
 
@@ -256,7 +260,7 @@ impl Sound {
         }
         self.left -= 1;
         self.at = self.at.wrapping_add(1);
-        match self.wave {
+        let sample = match self.wave {
             Wave::Zero => 0.0,
             Wave::MinusZero => -0.0,
             Wave::Constant => self.level,
@@ -264,6 +268,11 @@ impl Sound {
             Wave::Alternating => -self.level,
             Wave::Noise => self.level * (2.0 * self.random.share() - 1.0),
             Wave::Sine(pitch) => self.level * (self.at as f32 * pitch).sin(),
+        };
+        if self.sixteen_bit {
+            f32::from((sample * 32_768.0).round() as i16) / 32_768.0
+        } else {
+            sample
         }
     }
 }
