@@ -8,7 +8,7 @@ use lib.Pow.{pow-add, pow-pos, pow-mono}
 use lib.Ieee.{nearest}
 use lib.Ieee.Nearest.{closest, nearest-ge}
 use lib.Ieee.Order.{drop, kept}
-use Rattle.float.proofs.Sticky.{Cmp, cmp, side, drop-bounds}
+use Rattle.float.proofs.Sticky.{Cmp, cmp, div-is, side, drop-bounds}
 
 -- ---- how far `closest` can be from its fraction: half a unit
 pub closest-bounds : (n c : ℕ) → 0 < c → (2 * n ≤ 2 * (closest n c * c) + c) × (2 * (closest n c * c) ≤ 2 * n + c)
@@ -46,6 +46,25 @@ closest-bounds n c C = go (compare (n % c * 2) c) (cmp (n % c * 2) c)
     go Ordering·lt h = at (n / c) refl (le-of-lt h)
     go Ordering·eq h = elim (two (n / c)) [ inl z ↦ at (n / c + n / c % 2) z (le-of-eq h) | inr z ↦ after (n / c + n / c % 2) z (le-of-eq (sym h)) small ]
     go Ordering·gt h = after (suc (n / c)) refl (le-of-lt h) small
+
+-- ---- `closest` by a sum: half a unit less one carries what lies above a half, and one more a half that stands over an odd number
+module _ (q r h : ℕ) (U : 0 < 2 * h) (R : r < 2 * h) where
+  stays : r + (h - 1) + q % 2 < 2 * h → (q * (2 * h) + r + (h - 1) + q % 2) / (2 * h) ≡ q
+  stays b = div-is (q * (2 * h) + r + (h - 1) + q % 2) (2 * h) q U (omega arith) (omega arith)
+
+  carries : 2 * h ≤ r + (h - 1) + q % 2 → (q * (2 * h) + r + (h - 1) + q % 2) / (2 * h) ≡ suc q
+  carries b = div-is (q * (2 * h) + r + (h - 1) + q % 2) (2 * h) (suc q) U (omega (arith, suc-mul q (2 * h))) (omega (arith, suc-mul q (2 * h)))
+
+  carried : (o : Ordering) → Cmp o (r * 2) (2 * h) → (q * (2 * h) + r + (h - 1) + q % 2) / (2 * h) ≡ nearest q o
+  carried Ordering·lt c = stays (omega arith)
+  carried Ordering·eq c = elim (eq-zero-or-pos (q % 2)) [ inl z ↦ stays (omega arith) ∙ omega arith | inr p ↦ carries (omega arith) ∙ omega arith ]
+  carried Ordering·gt c = carries (omega arith)
+
+pub closest-sum : (w h : ℕ) → 0 < h → (w + (h - 1) + w / (2 * h) % 2) / (2 * h) ≡ closest w (2 * h)
+closest-sum w h H =
+    let u = 2 * h in
+    ap (λ (x : ℕ). (x + (h - 1) + w / u % 2) / u) (sym (div-add-mod' w u))
+    ∙ carried (w / u) (w % u) h (omega arith) (mod-lt w (omega arith)) (compare (w % u * 2) u) (cmp (w % u * 2) u)
 
 -- ---- a value of the format, q * 2 ^ i with q of at most p digits, against what is kept of n / c
 module _ (p n c q i : ℕ) (P : 0 < p) (C : 0 < c) (Q : q < 2 ^ p) where

@@ -56,7 +56,7 @@ nearest-eq q a b h = go (compare a b) (cmp a b)
     go Ordering·gt c = clash b a c (le-of-eq h)
 
 -- ---- a / b below the half above p, and above it
-div-is : (a b p : ℕ) → 0 < b → p * b ≤ a → a < p * b + b → a / b ≡ p
+pub div-is : (a b p : ℕ) → 0 < b → p * b ≤ a → a < p * b + b → a / b ≡ p
 div-is a b p B lo hi =
     le-antisymm (le-of-suc-le-suc (div-lt-iff-lt-mul {k = b} {x = a} {y = suc p} B .1 (le-trans hi (le-of-eq (sym (suc-mul p b)))))) (le-div-iff-mul-le {k = b} {x = p} {y = a} B .1 lo)
 

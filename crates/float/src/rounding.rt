@@ -30,7 +30,8 @@ fn below(d: i32) -> u32
     above(-d)
 }
 
-// w / 2^s to the nearest whole number, a tie to the even one.
+// w / 2^s to the nearest whole number, a tie to the even one. A half less one carries whatever lies above a half, and one more a half that stands over an odd
+// number: no branch, since which way it goes is as good as chance.
 fn nearest_shift(w: u64, s: u32) -> u64
     requires { ⌜ (1 ≤ s) × (w < 2 ^ 63) ⌝ }
     ensures { λ r. ⌜ r ≡ closest w (2 ^ s) ⌝ }
@@ -38,16 +39,9 @@ fn nearest_shift(w: u64, s: u32) -> u64
     if 63 < s {
         return 0;
     }
-    let unit = 1 << s;
     let q = w >> s;
-    let rest = (w & (unit - 1)) * 2;
-    if rest < unit {
-        return q;
-    }
-    if unit < rest {
-        return q + 1;
-    }
-    q + q % 2
+    let half = 1 << (s - 1);
+    (w + (half - 1) + q % 2) >> s
 }
 
 // Of a word with its top digit at bit 62, at the exponent e - up: how many of the format's digits lie above the 24 that are kept. Below zero, that many
