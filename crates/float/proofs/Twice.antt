@@ -3,11 +3,12 @@
 use mathlib.Core.Path.{_≡_, refl, sym, ap, ap₂, _∙_, subst}
 use mathlib.Core.Logic.{_⊎_, inl, inr}
 use Prim.Native.Nat.{ℕ, zero, suc, _+_, _-_, _*_, _/_, _%_, _^_, _≤_, _<_, compare}
-use native.Mathlib.Nat.{le-trans, le-of-eq, lt-of-lt-of-le, lt-of-le-of-lt, mul-assoc, mul-comm, mul-right-comm, mul-pos, add-mul, suc-mul, mul-le-mul-left, mul-le-mul-right, mul-one, div-add-mod', mod-lt, add-assoc, div-lt-iff-lt-mul, le-div-iff-mul-le, lt-of-mul-lt-mul-right, le-of-mul-le-mul-right}
+use native.Mathlib.Nat.{le-trans, le-of-eq, le-of-suc-le-suc, lt-of-lt-of-le, lt-of-le-of-lt, mul-assoc, mul-comm, mul-left-comm, mul-right-comm, mul-pos, add-mul, suc-mul, mul-le-mul-left, mul-le-mul-right, mul-one, div-add-mod', mod-lt, add-assoc, div-lt-iff-lt-mul, le-div-iff-mul-le, lt-of-mul-lt-mul-right, le-of-mul-le-mul-right}
 use native.Mathlib.Omega.{arith}
 use mathlib.Core.Bool.{Bool, true, false, cond}
 use lib.Dec.{lit≤, lit<}
-use lib.Pow.{pow-add, pow-pos}
+use lib.Arith.{lt-of-le-ne}
+use lib.Pow.{pow-add, pow-pos, pow-mono}
 use lib.Ieee.{Float, nan, inf, fin, binary32, binary64, size, odd, units, round, toBits, ofBits}
 use lib.Ieee.Digits.{Equals}
 use lib.Ieee.Fits.{nearest-le, round-is}
@@ -18,7 +19,7 @@ use borrow.Author.Tests.{le-ltb}
 use Rattle.float.specs.declared.Rounded.the-variants.{Finite, Nothing}
 use Rattle.float.specs.Finite.{rounded}
 use Rattle.float.specs.Inside.{Narrowed}
-use Rattle.float.proofs.Sticky.{side, closest-down, closest-up, pow-lt-back, Dropped, drop-bounds, drop-is}
+use Rattle.float.proofs.Sticky.{side, div-is, closest-down, closest-up, pow-lt-back, Dropped, drop-bounds, drop-is}
 use Rattle.float.proofs.Near.{closest-bounds}
 use Rattle.float.proofs.Encode.{Signed, toBits-val, fields-of, in-range, pack-in}
 
@@ -33,27 +34,36 @@ closest-is a b p B lo hi = elim (side a (p * b)) [
     before zero h l = absurd (omega arith)
     before (suc p) h l = let e : suc p * b ≡ p * b + b = suc-mul p b in closest-up a b p B (omega arith) (omega arith)
 
--- ---- q is nearest to n / u. To a multiple of 2^29 both round alike, unless q is in the middle of two.
-pub narrow-closest : (n u q : ℕ) → 0 < u → closest n u ≡ q → (q % 0x2000_0000 ≡ 0x1000_0000 → ⊥) → closest n (u * 0x2000_0000) ≡ (q + 0x1000_0000) / 0x2000_0000
-narrow-closest n u q U e m =
-    let p = q / 0x2000_0000 in
-    let r = q % 0x2000_0000 in
+-- ---- q is nearest to n / u. To a multiple of 2 * h both round alike, unless q is in the middle of two.
+pub narrow-by : (n u q h : ℕ) → 0 < u → 0 < h → closest n u ≡ q → (q % (2 * h) ≡ h → ⊥) → closest n (u * (2 * h)) ≡ (q + h) / (2 * h)
+narrow-by n u q h U H e m =
+    let p = q / (2 * h) in
+    let r = q % (2 * h) in
+    let z = h * u in
     let b = closest-bounds n u U in
     let lo : 2 * (q * u) ≤ 2 * n + u = subst (λ (x : ℕ). 2 * (x * u) ≤ 2 * n + u) e (b .1) in
     let hi : 2 * n ≤ 2 * (q * u) + u = subst (λ (x : ℕ). 2 * n ≤ 2 * (x * u) + u) e (b .0) in
-    let qu : q * u ≡ p * u * 0x2000_0000 + r * u = ap (λ (x : ℕ). x * u) (sym (div-add-mod' q 0x2000_0000)) ∙ add-mul (p * 0x2000_0000) r u ∙ ap (λ (x : ℕ). x + r * u) (mul-right-comm p 0x2000_0000 u) in
-    let pb : p * (u * 0x2000_0000) ≡ p * u * 0x2000_0000 = sym (mul-assoc p u 0x2000_0000) in
-    let B : 0 < u * 0x2000_0000 = mul-pos U (pow-pos 29) in
-    elim (side r 0x1000_0000) [
+    let q-is : p * (2 * h) + r ≡ q = div-add-mod' q (2 * h) in
+    let two : 0 < 2 * h = mul-pos (lit< tt) H in
+    let r-lt : r < 2 * h = mod-lt q two in
+    let w-is : u * (2 * h) ≡ 2 * z = mul-left-comm u 2 h ∙ ap (λ (x : ℕ). 2 * x) (mul-comm u h) in
+    let pw : p * (u * (2 * h)) ≡ 2 * (p * z) = ap (λ (x : ℕ). p * x) w-is ∙ mul-left-comm p 2 z in
+    let sw : suc p * (u * (2 * h)) ≡ p * (u * (2 * h)) + u * (2 * h) = suc-mul p (u * (2 * h)) in
+    let qu : q * u ≡ 2 * (p * z) + r * u = ap (λ (x : ℕ). x * u) (sym q-is) ∙ add-mul (p * (2 * h)) r u ∙ ap (λ (x : ℕ). x + r * u) (mul-assoc p (2 * h) u ∙ ap (λ (x : ℕ). p * x) (mul-assoc 2 h u) ∙ mul-left-comm p 2 z) in
+    let W : 0 < u * (2 * h) = mul-pos U two in
+    elim (side r h) [
       | inl l ↦
-          let ru : r * u + u ≤ 0x1000_0000 * u = le-trans (le-of-eq (sym (suc-mul r u))) (mul-le-mul-right u l) in
-          closest-is n (u * 0x2000_0000) p B (omega arith) (omega arith) ∙ (omega arith)
+          let ru : r * u + u ≤ z = le-trans (le-of-eq (sym (suc-mul r u))) (mul-le-mul-right u l) in
+          closest-is n (u * (2 * h)) p W (omega arith) (omega arith) ∙ sym (div-is (q + h) (2 * h) p two (omega arith) (omega arith))
       | inr l ↦
-          let ru : r * u + u ≤ 0x2000_0000 * u = le-trans (le-of-eq (sym (suc-mul r u))) (mul-le-mul-right u (mod-lt q (pow-pos 29))) in
-          let g : 0x1000_0001 * u ≤ r * u = mul-le-mul-right u (omega arith) in
-          let sb : suc p * (u * 0x2000_0000) ≡ p * u * 0x2000_0000 + u * 0x2000_0000 = suc-mul p (u * 0x2000_0000) ∙ ap (λ (x : ℕ). x + u * 0x2000_0000) pb in
-          closest-is n (u * 0x2000_0000) (suc p) B (omega arith) (omega arith) ∙ (omega arith)
+          let g : h < r = lt-of-le-ne l (λ x. m (sym x)) in
+          let ru : r * u + u ≤ 2 * z = le-trans (le-of-eq (sym (suc-mul r u))) (le-trans (mul-le-mul-right u r-lt) (le-of-eq (mul-assoc 2 h u))) in
+          let zu : z + u ≤ r * u = le-trans (le-of-eq (sym (suc-mul h u))) (mul-le-mul-right u g) in
+          closest-is n (u * (2 * h)) (suc p) W (omega arith) (omega arith) ∙ sym (div-is (q + h) (2 * h) (suc p) two (omega (arith, suc-mul p (2 * h))) (omega (arith, suc-mul p (2 * h))))
     ]
+
+pub narrow-closest : (n u q : ℕ) → 0 < u → closest n u ≡ q → (q % 0x2000_0000 ≡ 0x1000_0000 → ⊥) → closest n (u * 0x2000_0000) ≡ (q + 0x1000_0000) / 0x2000_0000
+narrow-closest n u q U e m = narrow-by n u q 0x1000_0000 U (lit< tt) e m
 
 -- ---- what is kept of n / c in f64: at most 53 digits or 2^53, and all 53 where digits are dropped
 module _ (n c k : ℕ) (C : 0 < c) (d : Dropped 53 n c k) where
@@ -234,7 +244,77 @@ narrow-zero s n c b C e z = go (seen s n c b C e (below z))
         ∙ has-rounded (units binary32 s 0 0) s 0 (2 ^ 149) (units-val binary32 s 0 0 (lit< tt))
         ∙ ap Finite (sym (pack-in s 0 0 (lit≤ tt) (inl refl) (lit< tt)) ∙ ap (ofBits binary32) (omega (arith, v .sign-is)))
 
--- ---- the contract of `narrowed`, for each of its three answers
+-- ---- a subnormal f32, whose units are 2^925 of f64's: where f64 keeps q of units of 2 ^ k, t + 1 more digits are dropped
+pub low-le : (q t : ℕ) → q < 2 ^ 53 → 28 ≤ t → (q + 2 ^ t) / (2 * 2 ^ t) ≤ 2 ^ 24
+low-le q t h g =
+    let u : 2 ^ 28 ≤ 2 ^ t = pow-mono g in
+    le-of-suc-le-suc (div-lt-iff-lt-mul {k = 2 * 2 ^ t} {x = q + 2 ^ t} {y = suc (2 ^ 24)} (omega arith) .1 (omega arith))
+
+module _ (n c k q t : ℕ) (C : 0 < c) (e : closest (n * 2 ^ 1074) (c * 2 ^ k) ≡ q) (q-lt : q < 2 ^ 53) (k-is : k + t ≡ 924) (t-ge : 28 ≤ t) where
+  low-dropped : Dropped 24 (n * 2 ^ 149) c 0
+  low-dropped =
+      let u = c * 2 ^ k in
+      let top : 2 ^ 53 * u ≤ 2 ^ 24 * c * 2 ^ 925 =
+      le-trans (le-of-eq (mul-left-comm (2 ^ 53) c (2 ^ k) ∙ ap (λ (x : ℕ). c * x) (sym (pow-add 2 53 k))))
+      (le-trans (mul-le-mul-left c (pow-mono {i = 53 + k} {j = 24 + 925} (omega arith)))
+      (le-of-eq (ap (λ (x : ℕ). c * x) (pow-add 2 24 925) ∙ sym (mul-assoc c (2 ^ 24) (2 ^ 925)) ∙ ap (λ (x : ℕ). x * 2 ^ 925) (mul-comm c (2 ^ 24))))) in
+      let up : q * u + u ≤ 2 ^ 24 * c * 2 ^ 925 = le-trans (le-of-eq (sym (suc-mul q u))) (le-trans (mul-le-mul-right u q-lt) top) in
+      let bound : 2 * (n * 2 ^ 1074) ≤ 2 * (q * u) + u = subst (λ (x : ℕ). 2 * (n * 2 ^ 1074) ≤ 2 * (x * u) + u) e (closest-bounds (n * 2 ^ 1074) u (mul-pos C (pow-pos k)) .0) in
+      (lt-of-mul-lt-mul-right (2 ^ 925) (lt-of-le-of-lt (le-of-eq (sym (unit-is n c 0 C))) (below (n * 2 ^ 1074) (q * u) u (2 ^ 24 * c * 2 ^ 925) bound (mul-pos C (pow-pos k)) up)), inl refl)
+    where
+      below : (y z w a : ℕ) → 2 * y ≤ 2 * z + w → 0 < w → z + w ≤ a → y < a
+      below y z w a h p g = omega arith
+
+  low-kept : (q % (2 * 2 ^ t) ≡ 2 ^ t → ⊥) → closest (n * 2 ^ 149) (c * 2 ^ 0) ≡ (q + 2 ^ t) / (2 * 2 ^ t)
+  low-kept m =
+      let w = c * 2 ^ k * (2 * 2 ^ t) in
+      let all : k + (1 + t) ≡ 925 = omega arith in
+      let w-is : w ≡ c * 2 ^ 925 = mul-assoc c (2 ^ k) (2 * 2 ^ t) ∙ ap (λ (x : ℕ). c * x) (ap (λ (x : ℕ). 2 ^ k * x) (sym (pow-add 2 1 t)) ∙ sym (pow-add 2 k (1 + t)) ∙ ap (λ (x : ℕ). 2 ^ x) all) in
+      closest-same (n * 2 ^ 149) (c * 2 ^ 0) (n * 2 ^ 1074) w (mul-pos C (pow-pos 0)) (mul-pos (mul-pos C (pow-pos k)) (mul-pos (lit< tt) (pow-pos t)))
+      (ap (λ (x : ℕ). n * 2 ^ 149 * x) w-is ∙ mul-left-comm (n * 2 ^ 149) c (2 ^ 925) ∙ ap (λ (x : ℕ). c * x) (sym (unit-is n c 0 C)) ∙ mul-comm c (n * 2 ^ 1074) ∙ ap (λ (x : ℕ). n * 2 ^ 1074 * x) (sym (mul-one c)))
+      ∙ narrow-by (n * 2 ^ 1074) (c * 2 ^ k) q (2 ^ t) (mul-pos C (pow-pos k)) (pow-pos t) e m
+
+  low-at : (s : Bool) → (q % (2 * 2 ^ t) ≡ 2 ^ t → ⊥) → rounded (round binary32 s n c) ≡ Finite (ofBits binary32 (cond s 0x8000_0000 0 + (q + 2 ^ t) / (2 * 2 ^ t)))
+  low-at s m =
+      let r = (q + 2 ^ t) / (2 * 2 ^ t) in
+      let le : r ≤ 2 ^ 24 = low-le q t q-lt t-ge in
+      let top : 0 * 8388608 + r < 2139095040 = omega arith in
+      ap rounded
+      (round-is binary32 s n c
+      ∙ ap (λ (z : ℕ). units binary32 s (closest (n * 2 ^ 149) (c * 2 ^ z)) z) (drop-is 24 (n * 2 ^ 149) c 0 (lit< tt) C low-dropped)
+      ∙ ap (λ (z : ℕ). units binary32 s z 0) (low-kept m))
+      ∙ has-rounded (units binary32 s r 0) s (r * 2 ^ 0) (2 ^ 149) (units-val binary32 s r 0 (in-range r 0 le (inl refl) top))
+      ∙ ap Finite (sym (pack-in s r 0 le (inl refl) top) ∙ ap (ofBits binary32) (omega arith))
+
+-- the pattern's field is 925 - t and its significand q; a significand that was rounded up to 2^53 stands there as 2^52, one place higher
+pub narrow-low : (s : Bool) (n c b q t : ℕ) → 0 < c → toBits binary64 (round binary64 s n c) ≡ b → b % 0x8000_0000_0000_0000 / 0x10_0000_0000_0000 + t ≡ 925 → b % 0x8000_0000_0000_0000 % 0x10_0000_0000_0000 + 0x10_0000_0000_0000 ≡ q → 28 ≤ t → t < 900
+    → (q % (2 * 2 ^ t) ≡ 2 ^ t → ⊥) → rounded (round binary32 s n c) ≡ Finite (ofBits binary32 (b / 0x8000_0000_0000_0000 * 0x8000_0000 + (q + 2 ^ t) / (2 * 2 ^ t)))
+narrow-low s n c b q t C e f g lo hi m = go (seen s n c b C e (omega arith))
+  where
+    signs : (x y r : ℕ) → x ≡ y → Finite (ofBits binary32 (y + r)) ≡ Finite (ofBits binary32 (x + r))
+    signs x y r h = ap (λ (z : ℕ). Finite (ofBits binary32 (z + r))) (sym h)
+
+    go : Seen s n c b → rounded (round binary32 s n c) ≡ Finite (ofBits binary32 (b / 0x8000_0000_0000_0000 * 0x8000_0000 + (q + 2 ^ t) / (2 * 2 ^ t)))
+    go v =
+        let i = v .size-is in
+        let le = v .le in
+        let ge : 2 ^ 52 ≤ v .q = elim (v .ge) [ inl z ↦ absurd (omega arith) | inr g ↦ g ] in
+        elim (side (v .q) (2 ^ 53)) [
+          | inl l ↦
+              let q-is : v .q ≡ q = omega arith in
+              low-at n c (v .k) q t C (v .kept ∙ q-is) (omega arith) (omega arith) lo s m
+          | inr l ↦
+              let q-is : 2 ^ 52 ≡ q = omega arith in
+              low-at n c (suc (v .k)) q t C (twice (v .k) (v .kept ∙ omega arith) ∙ q-is) (omega arith) (omega arith) lo s m
+        ]
+        ∙ signs (b / 0x8000_0000_0000_0000 * 0x8000_0000) (cond s 0x8000_0000 0) ((q + 2 ^ t) / (2 * 2 ^ t)) (v .sign-is)
+      where
+        twice : (k : ℕ) → closest (n * 2 ^ 1074) (c * 2 ^ k) ≡ 2 ^ 53 → closest (n * 2 ^ 1074) (c * 2 ^ suc k) ≡ 2 ^ 52
+        twice k h =
+            let next : suc k ≡ k + 1 = omega arith in
+            ap (closest (n * 2 ^ 1074)) (ap (λ (x : ℕ). c * 2 ^ x) next ∙ ap (λ (x : ℕ). c * x) (pow-add 2 k 1) ∙ sym (mul-assoc c (2 ^ k) 2)) ∙ narrow-by (n * 2 ^ 1074) (c * 2 ^ k) (2 ^ 53) 1 (mul-pos C (pow-pos k)) (lit< tt) h (λ x. omega arith)
+
+-- ---- the contract of `narrowed`, for each of its answers
 pub none : (b : ℕ) → Narrowed b Nothing
 none b x e = absurd (let z : _≡_ {A = ℕ} 0 1 = cc in omega arith)
 
@@ -243,3 +323,7 @@ some b lo hi m x e = (lt-of-lt-of-le hi (lit≤ tt), λ s n c C f. narrow-round 
 
 pub zeros : (b : ℕ) → b % 0x8000_0000_0000_0000 ≡ 0 → Narrowed b (Finite (ofBits binary32 (b / 0x8000_0000_0000_0000 * 0x8000_0000)))
 zeros b z x e = (omega arith, λ s n c C f. narrow-zero s n c b C f z)
+
+pub lows : (b q t : ℕ) → b % 0x8000_0000_0000_0000 / 0x10_0000_0000_0000 + t ≡ 925 → b % 0x8000_0000_0000_0000 % 0x10_0000_0000_0000 + 0x10_0000_0000_0000 ≡ q → 28 ≤ t → t < 900
+    → (q % (2 * 2 ^ t) ≡ 2 ^ t → ⊥) → Narrowed b (Finite (ofBits binary32 (b / 0x8000_0000_0000_0000 * 0x8000_0000 + (q + 2 ^ t) / (2 * 2 ^ t))))
+lows b q t f g lo hi m x e = (omega arith, λ s n c C h. narrow-low s n c b q t C h f g lo hi m)

@@ -1,13 +1,13 @@
 -- Shifts, masks and float tests as the machine has them.
 use mathlib.Core.Path.{_≡_, refl, sym, ap, _∙_, subst}
-use Prim.Native.Nat.{ℕ, _-_, _*_, _/_, _%_, _^_, _≤_, _<_}
+use Prim.Native.Nat.{ℕ, _+_, _-_, _*_, _/_, _%_, _^_, _≤_, _<_}
 use native.Mathlib.Nat.{one-mul, div-lt-iff-lt-mul}
 use native.Mathlib.Omega.{arith}
 use mathlib.Core.Bool.{Bool, true, false, not}
 use lib.Dec.{T, eqb, eqb-refl, lit<}
 use lib.Arith.{lt-one}
 use lib.Bits.{bitAnd, and-mask}
-use lib.Pow.{pow-pos, shl-exact}
+use lib.Pow.{pow-add, pow-pos, shl-exact}
 use lib.Ieee.{Float, nan, inf, fin, binary32, up, down, ne, isNan, nanBits}
 use lib.Ieee.Bits.{is-true, nanBits-above}
 use borrow.Author.Tests.{le-ltb}
@@ -15,6 +15,9 @@ use borrow.Author.Tests.{le-ltb}
 -- 1 << d
 pub unit-is : (d : ℕ) → d < 64 → 1 * 2 ^ d % 18446744073709551616 ≡ 2 ^ d
 unit-is d h = shl-exact {a = 1} 1 d 64 (lit< tt) (omega arith) ∙ one-mul (2 ^ d)
+
+pub unit-twice : (d : ℕ) → 1 ≤ d → 2 * 2 ^ (d - 1) ≡ 2 ^ d
+unit-twice d h = sym (pow-add 2 1 (d - 1)) ∙ ap (λ (x : ℕ). 2 ^ x) (omega arith)
 
 -- m & ((1 << d) - 1)
 pub mask-is : (m d : ℕ) → d < 64 → bitAnd m (1 * 2 ^ d % 18446744073709551616 - 1) ≡ m % 2 ^ d

@@ -87,7 +87,7 @@ pub fn mul_add(a: f32, b: f32, c: f32) -> Rounded
     Rounded::Finite(sum)
 }
 
-// The same in whole numbers: where the f64 is a middle of two f32, or a subnormal or an overflow in f32.
+// The same in whole numbers: where the f64 is a middle of two f32, an overflow in f32, or below 2^-159.
 fn whole_mul_add(a: f32, b: f32, c: f32) -> Rounded
     ensures { λ r. ⌜ r ≡ fusedOf a b c ⌝ }
 {

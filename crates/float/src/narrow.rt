@@ -23,7 +23,9 @@ pub(crate) fn wide_bits(a: f32, b: f32, c: f32) -> u64
     f64::to_bits(sum)
 }
 
-// The f32 of every number whose nearest f64 has these bits, where they settle it: above the smallest normal f32, below the largest, and in no middle; or zero.
+// The f32 of every number whose nearest f64 has these bits, where they settle it: zero, or from 2^-159 to below the largest f32, and in no middle.
+// A subnormal's last digit stands at 2^-149 wherever its first one does: the lower the f64 stands, the more digits are cut off.
+// One function, since what it answers would go through memory from one to the other.
 pub(crate) fn narrowed(bits: u64) -> Rounded
     ensures { λ r. ⌜ Narrowed bits r ⌝ }
 {
@@ -33,7 +35,17 @@ pub(crate) fn narrowed(bits: u64) -> Rounded
         if size == 0 {
             return Rounded::Finite(f32::from_bits(sign as u32));
         }
-        return Rounded::Nothing;
+        if size < 0x3600_0000_0000_0000 {
+            return Rounded::Nothing;
+        }
+        let s = 926 - size / 0x10_0000_0000_0000;
+        let q = size % 0x10_0000_0000_0000 + 0x10_0000_0000_0000;
+        let half = 1 << (s - 1);
+        if q & ((1 << s) - 1) == half {
+            return Rounded::Nothing;
+        }
+        let low = (q + half) >> s;
+        return Rounded::Finite(f32::from_bits((sign + low) as u32));
     }
     if 0x47ef_ffff_e000_0000 <= size {
         return Rounded::Nothing;
