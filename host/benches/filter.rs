@@ -10,7 +10,7 @@ mod random;
 
 use std::f32::consts::TAU;
 use std::hint::black_box;
-use std::time::Instant;
+use std::time::{Duration, Instant};
 
 use fallowcart::{Filter, HighpassOrder, PreprocessingConfig};
 use for_original::for_original;
@@ -20,6 +20,7 @@ use speech_prep::preprocessing as original;
 const SAMPLES: usize = 1 << 15;
 const ROUNDS: usize = 101;
 const RATE: f32 = 16_000.0;
+const CALLS: usize = 2_000;
 
 /// Nanoseconds of a sample in one round.
 fn round(sound: &[f32], block: usize, mut process: impl FnMut(&[f32])) -> f64 {
@@ -57,11 +58,67 @@ fn compare(name: &str, config: PreprocessingConfig, sound: &[f32], block: usize)
         }
     }
     assert_eq!(port.dc_bias().to_bits(), judge.dc_bias().to_bits());
-    let (port, original) = (median(ports), median(originals));
+    line(name, block, median(ports), median(originals));
+}
+
+fn line(name: &str, block: usize, port: f64, original: f64) {
     println!(
         "{name:<32} {block:>6} {port:>8.1} {original:>8.1} {:>8.1}",
         port / original
     );
+}
+
+fn head(what: &str) {
+    println!(
+        "{what:<32} {:>6} {:>8} {:>8} {:>8}",
+        "block", "port", "original", "ratio"
+    );
+}
+
+/// Nanoseconds of a call with no sample.
+fn calls(name: &str, config: PreprocessingConfig) {
+    let mut port = Filter::new(config).expect("the settings are accepted");
+    let mut judge =
+        original::DcHighPassFilter::new(for_original(config)).expect("the settings are accepted");
+    let each = |time: Duration| time.as_secs_f64() * 1e9 / CALLS as f64;
+    let (mut ports, mut originals) = (Vec::new(), Vec::new());
+    for _ in 0..ROUNDS {
+        let start = Instant::now();
+        for _ in 0..CALLS {
+            port.process(black_box(&[]), None, &mut [])
+                .expect("accepted");
+        }
+        ports.push(each(start.elapsed()));
+        let start = Instant::now();
+        for _ in 0..CALLS {
+            black_box(judge.process(black_box(&[]), None).expect("accepted"));
+        }
+        originals.push(each(start.elapsed()));
+    }
+    line(name, 0, median(ports), median(originals));
+}
+
+/// Nanoseconds of a sample, from the stream's start up to so many minutes.
+fn growth(minutes: &[usize], config: PreprocessingConfig, sound: &[f32]) {
+    let mut port = Filter::new(config).expect("the settings are accepted");
+    let mut output = vec![0.0; 1_024];
+    let mut judge =
+        original::DcHighPassFilter::new(for_original(config)).expect("the settings are accepted");
+    let (mut ports, mut originals, mut rounds) = (0.0, 0.0, 0.0);
+    for &limit in minutes {
+        while (rounds as usize) < limit * 60 * RATE as usize / SAMPLES {
+            ports += round(sound, 1_024, |samples| {
+                port.process(samples, None, &mut output).expect("accepted");
+                black_box(&output);
+            });
+            originals += round(sound, 1_024, |samples| {
+                black_box(judge.process(samples, None).expect("accepted"));
+            });
+            rounds += 1.0;
+        }
+        let name = format!("{limit} minutes of speech");
+        line(&name, 1_024, ports / rounds, originals / rounds);
+    }
 }
 
 /// Five sines, as of a vowel, that swell and fade four times a second, over a bias and noise.
@@ -98,10 +155,7 @@ fn main() {
     };
 
     println!("ns a sample; the median of {ROUNDS} rounds of {SAMPLES} samples");
-    println!(
-        "{:<32} {:>6} {:>8} {:>8} {:>8}",
-        "", "block", "port", "original", "ratio"
-    );
+    head("");
     for block in [160, 1_024] {
         compare("fourth order, speech", fourth, &speech, block);
         compare("second order, speech", second, &speech, block);
@@ -109,4 +163,10 @@ fn main() {
         compare("fourth order, silence", fourth, &[0.0; SAMPLES], block);
         compare("fourth order, subnormals", fourth, &subnormals, block);
     }
+    println!();
+    head("ns a call without samples");
+    calls("fourth order", fourth);
+    println!();
+    head("ns a sample, as the stream grows");
+    growth(&[1, 10, 60, 600], fourth, &speech);
 }
