@@ -16,10 +16,10 @@ use lib.Ieee.Bits.{is-true}
 use Rattle.float.specs.Fused.{fusedOf}
 use Rattle.float.specs.declared.Rounded.{Rounded}
 use Rattle.float.proofs.Sticky.{side}
-use Rattle.float.proofs.Words.{T-of}
+use Rattle.float.proofs.Words.{both, T-of}
 use Rattle.float.proofs.Bounds.{fits-parts, Mag, Yields, mag-finite, held-small, held-scaled, held-own, over-value, mul-mag, add-mag, sub-mag, div-mag, fused-mag}
 use Rattle.ranges.specs.Ranges.{limit, inDomain, cleanOf}
-use Rattle.ranges.proofs.Laws.{both, leading-first, sample-mag}
+use Rattle.ranges.proofs.Laws.{leading-first, sample-mag}
 use Rattle.dc_state.specs.Biquad.{orNan}
 use Rattle.dc_state.specs.Settings.{zero as +0, one, alphaTaken}
 use Rattle.dc_highpass.specs.Filter.{sumFrom, meanOf, biasOf}

@@ -14,6 +14,7 @@ use Rattle.float.specs.declared.Rounded.the-variants.{Finite}
 use Rattle.float.specs.Fused.{fusedOf}
 use Rattle.float.specs.Inside.{magOf, negOf}
 use Rattle.float.specs.Settled.{normalSize, cutOf, upOf, evenedOf, exactOf, settledBy, quickOf}
+use Rattle.float.proofs.Words.{both}
 use Rattle.float.proofs.Sticky.{side}
 use Rattle.float.proofs.Decode.{decoded}
 use Rattle.float.proofs.Align.{sum-is}
@@ -67,19 +68,10 @@ wide-number (fin s m i) (fin t n j) (fin u l k) p q f =
     (sym (wide-is s m i t n j u l k (toBits binary32 (fin s m i)) (toBits binary32 (fin t n j)) (decoded (fin s m i) p) (decoded (fin t n j) q) ∙ sum-is binary64 w a u b c))
     (round-number (negOf w a u b) (magOf w a u b) c)
 
-and-true : (a b : Bool) → a && b ≡ true → (a ≡ true) × (b ≡ true)
-and-true true b h = (refl, h)
-and-true false b h = absurd (true≢false (sym h))
-
 -- ---- what `evened` works out stays below an infinity
 pub normal-says : (n : ℕ) → normalSize n ≡ true → (0x3810_0000 < n) × (n < 0x47ef_ffff)
 unfolding normalSize
-normal-says n h = go (ltb 0x3810_0000 n) refl (ltb n 0x47ef_ffff) refl h
-  where
-    go : (l : Bool) → ltb 0x3810_0000 n ≡ l → (h : Bool) → ltb n 0x47ef_ffff ≡ h → l && h ≡ true → (0x3810_0000 < n) × (n < 0x47ef_ffff)
-    go true e true f t = (ltb-true 0x3810_0000 n e, ltb-true n 0x47ef_ffff f)
-    go true e false f t = absurd (true≢false (sym t))
-    go false e h f t = absurd (true≢false (sym t))
+normal-says n h = let t = both (ltb 0x3810_0000 n) (ltb n 0x47ef_ffff) h in (ltb-true 0x3810_0000 n (t .0), ltb-true n 0x47ef_ffff (t .1))
 
 pub up-le : (m low : ℕ) → (low % 0x2000_0000 + 0x0fff_ffff + m % 2) / 0x2000_0000 ≤ 1
 up-le m low = omega arith
@@ -160,7 +152,7 @@ quick-fused a b c p q o f t = go (eqb (size w) 0 && eqb (low w) 0) refl (normalS
     m = (size w - 0x3800_0000) * 8 + low w / 0x2000_0000
 
     nothing : eqb (size w) 0 && eqb (low w) 0 ≡ true → n ≡ 0
-    nothing h = let l = eqb-true (size w) 0 (and-true (eqb (size w) 0) (eqb (low w) 0) h .0) in let r = eqb-true (low w) 0 (and-true (eqb (size w) 0) (eqb (low w) 0) h .1) in size-is w ∙ ap₂ (λ (x y : ℕ). x * 0x1_0000_0000 + y) l r
+    nothing h = let l = eqb-true (size w) 0 (both (eqb (size w) 0) (eqb (low w) 0) h .0) in let r = eqb-true (low w) 0 (both (eqb (size w) 0) (eqb (low w) 0) h .1) in size-is w ∙ ap₂ (λ (x y : ℕ). x * 0x1_0000_0000 + y) l r
 
     result : ℕ → Float
     result v = ofBits binary32 (w / 0x8000_0000_0000_0000 * 0x8000_0000 + v)

@@ -1,5 +1,5 @@
--- A fused sum of finite operands by the processor's f64, and when that is settled. Nothing here has to be believed: `quick-fused` in proofs/Settling holds it to
--- `fusedOf`.
+-- A fused sum of finite operands by the processor's f64, and when that is settled. Nothing here has to be believed: a settled sum is
+-- `fusedOf`, as the contract of `quick_sum` says besides (`quick-fused` in proofs/Settling).
 use Prim.Native.Nat.{ℕ, _+_, _-_, _*_, _/_, _%_}
 use mathlib.Core.Bool.{Bool, _&&_, _||_, not, cond}
 use lib.Dec.{leb, ltb, eqb}
@@ -7,7 +7,7 @@ use lib.Ieee.{Float, binary32, binary64, add, mul, toBits, ofBits}
 use Rattle.float.specs.declared.quick.Quick.{Quick}
 use Rattle.float.specs.Inside.{Q}
 
--- the upper half of an f64's pattern without its sign: above the smallest normal f32 and below the largest
+-- the upper half of an f64's pattern without its sign: above the smallest normal f32 and below the largest, but for a few at both ends, so that this half tells
 unfoldable pub normalSize : ℕ → Bool
 normalSize n = ltb 0x3810_0000 n && ltb n 0x47ef_ffff
 
@@ -18,7 +18,7 @@ cutOf size low = (size - 0x3800_0000) * 8 + low / 0x2000_0000
 unfoldable pub upOf : ℕ → ℕ → ℕ
 upOf m low = (low % 0x2000_0000 + 0x0fff_ffff + m % 2) / 0x2000_0000
 
--- the f32 nearest to it; a zero of its sign where that is no normal f32
+-- the f32 nearest to it; a zero of its sign where `normalSize` says no
 unfoldable pub evenedOf : ℕ → ℕ → Float
 evenedOf high low =
     let size = high % 0x8000_0000 in

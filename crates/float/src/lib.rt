@@ -1,5 +1,5 @@
 // Rust's exactly rounded `mul_add` and `sqrt` of f32 (document 01, 'Float helpers'), worked out in whole numbers from the bits; `mul_add` by the processor's f64
-// first, which settles nearly every result. And the roundings to whole numbers that settings and rows need.
+// first, which settles nearly every result, and the root from a guess in f64 that is tested. And the roundings to whole numbers that settings and rows need.
 mod bits;
 mod fused;
 mod narrow;

@@ -1,6 +1,6 @@
 // a * b + c of finite f32 by the processor's f64 alone, and whether that settles it: without a branch, so that a loop can work out several sums at once.
-// The f64 is the exact sum S rounded to R (narrow.rt). Where R is in no middle of two neighbouring f32, R and S have the same nearest f32. In a middle, as up to
-// a fifth of the results are in quiet 16-bit sound with the coefficient 0.97, they have it where R is S itself.
+// The f64 is the exact sum S rounded to R (narrow.rt). Where R is in no middle of two neighbouring f32, R and S have the same nearest f32. In a middle, as
+// many results are in quiet 16-bit sound with the coefficient 0.97, they have it where R is S itself.
 ghost use mathlib.Core.Path.{_≡_};
 ghost use mathlib.Core.Bool.{true, _&&_, _||_};
 ghost use Prim.Native.Nat.{_/_, _%_};

@@ -9,13 +9,9 @@ use lib.ListN.{length}
 use lib.Ieee.{Float, ofBits, le, neg}
 use lib.Ieee.Scale.{finite}
 use Rattle.lists.specs.Every.{Every, every-map}
-use Rattle.float.proofs.Words.{T-of}
+use Rattle.float.proofs.Words.{both, T-of}
 use Rattle.float.proofs.Bounds.{Mag, mag-of-range, mag-finite}
 use Rattle.ranges.specs.Ranges.{within, leadingOf, allWithin, limit, inDomain, cleanOf}
-
-pub both : (a b : Bool) → a && b ≡ true → (a ≡ true) × (b ≡ true)
-both true b h = (refl, h)
-both false b h = absurd (true≢false (sym h))
 
 module _ (low high : Float) where
   pub leading-le : (xs : List Float) → leadingOf low xs high ≤ length xs

@@ -22,7 +22,7 @@ use Rattle.vad_detector.specs.Entries.{checkOf, detectOf, detectRows, fl
 use Rattle.vad_state.specs.declared.VadDetector.{VadDetector}
 use Rattle.vad_call.specs.declared.Refusal.{Refusal}
 use Rattle.vad_call.specs.declared.Detected.{Detected}
-use Rattle.ranges.proofs.Laws.{both}
+use Rattle.float.proofs.Words.{both}
 
 -- ---- opening
 

@@ -33,7 +33,7 @@ fn emphasize(coeff: f32, previous: f32, sample: f32) -> f32
     float::mul_add_or(coeff, -previous, sample, 0.0)
 }
 
-// Whether each operand of a block's sums is a finite number.
+// Whether each operand of a block's sums is a finite number; of the samples it is asked whether they are in the domain, which is more.
 fn all_finite(coeff: f32, previous: f32, samples: &[f32]) -> bool
     ensures { λ r. ⌜ (r ≡ true → Operands coeff previous (now (samples .entry))) ⌝ }
 {

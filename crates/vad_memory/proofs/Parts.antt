@@ -9,7 +9,7 @@ use lib.ListN.{length, take, drop, getD, replicate, length-drop}
 use lib.Seq.{sets, length-take-le}
 use lib.Ieee.{Float, nan}
 use borrow.Author.Tests.{ltb-true, leb-true, le-leb}
-use Rattle.ranges.proofs.Laws.{both}
+use Rattle.float.proofs.Words.{both}
 use Rattle.vad_config.specs.Domain.{zero32}
 use Rattle.vad_config.specs.declared.VadConfig.{VadConfig}
 use Rattle.vad_segments.specs.declared.Rules.{Rules}

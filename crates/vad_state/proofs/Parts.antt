@@ -9,7 +9,7 @@ use lib.Dec.{leb, ltb, eqb}
 use lib.ListN.{take}
 use lib.Ieee.{Float, lt, neg}
 use lib.Ieee.Scale.{finite}
-use Rattle.ranges.proofs.Laws.{both}
+use Rattle.float.proofs.Words.{both}
 use Rattle.ranges.specs.Ranges.{within, allWithin, inDomain}
 use Rattle.vad_config.specs.Domain.{zero32, receivedIn}
 use Rattle.vad_config.specs.Settings.{refusalOf, lengthsOf}

@@ -9,7 +9,7 @@ use borrow.Author.Tests.{eq-eqb, ne-eqb}
 use lib.Dec.{eqb}
 use lib.ListN.{length, take, length-take}
 use lib.Ieee.{Float}
-use Rattle.ranges.proofs.Laws.{both}
+use Rattle.float.proofs.Words.{both}
 use Rattle.vad_config.specs.Settings.{refusalOf, lengthsOf}
 use Rattle.vad_config.proofs.Laws.{lengths-are, frame-high, hop-high, warmup-high}
 use Rattle.vad_segments.specs.declared.Rules.{Rules}

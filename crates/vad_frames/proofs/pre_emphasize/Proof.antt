@@ -1,4 +1,4 @@
-use mathlib.Core.Path.{_≡_, _∙_}
+use mathlib.Core.Path.{_∙_}
 use borrow.Author.Needs.{needs}
 use Rattle.vad_frames.specs.Emphasis.{emphasized}
 use Rattle.vad_frames.proofs.Laws.{emphasized-length}

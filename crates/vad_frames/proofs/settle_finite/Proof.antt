@@ -10,9 +10,9 @@ use lib.Ieee.{Float, nan}
 use lib.Ieee.Scale.{finite}
 use Rattle.lists.specs.Every.{every-at}
 use Rattle.lists.specs.Stores.{sets-cons, sets-over}
-use Rattle.ranges.proofs.Laws.{both}
+use Rattle.float.proofs.Words.{both}
 use borrow.Author.Needs.{needs}
-use Rattle.vad_frames.specs.Emphasis.{emphasizedOf, emphasized}
+use Rattle.vad_frames.specs.Emphasis.{emphasized}
 use Rattle.vad_frames.specs.Inside.{SamePast}
 use Rattle.vad_frames.proofs.Turns.{emphasized-step, emphasized-end, finite-neg, settled-is}
 use Rattle.vad_frames.proofs.settle_finite.Statement.{statement}
