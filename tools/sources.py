@@ -144,11 +144,11 @@ def functions(crate):
 
 
 def types(crate):
-    """The structs and enums of a crate by name: a struct's fields, an enum's variants."""
+    """The structs and enums of a crate by name: a struct's fields, and None of an enum."""
     found = {}
     for file in sorted((CRATES / crate / "src").rglob("*.rt")):
         text = without_comments(file.read_text())
-        for one in re.finditer(r"^(?:pub )?(?:struct|enum) (\w+)(?:<[^>]*>)? \{", text, re.M):
-            parts = split(text[one.end() : closing(text, one.end() - 1)], ",")
-            found[one[1]] = [re.match(r"(?:pub )?(\w+)", part)[1] for part in parts if part]
+        for one in re.finditer(r"^(?:pub )?(struct|enum) (\w+)(?:<[^>]*>)? \{", text, re.M):
+            fields = split(text[one.end() : closing(text, one.end() - 1)], ",")
+            found[one[2]] = [re.match(r"(?:pub )?(\w+)", field)[1] for field in fields if field] if one[1] == "struct" else None
     return found
