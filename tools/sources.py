@@ -1,12 +1,22 @@
-"""Reads the repository's sources, for the tools that hold them to something: the crates, and the functions and structs of their Rattle code."""
+"""Reads the repository's sources, for the tools that hold them to something: the crates, the functions and structs of their Rattle code, and where
+the kit is."""
 import dataclasses
+import functools
 import pathlib
 import re
+import subprocess
 
 ROOT = pathlib.Path(__file__).resolve().parent.parent
 CRATES = ROOT / "crates"
 
 OPEN, CLOSE = "([{", ")]}"
+
+
+@functools.cache
+def kit():
+    """The kit's folder."""
+    guide = subprocess.run(["rt", "doc"], check=True, capture_output=True, text=True).stdout.strip()
+    return pathlib.Path(guide).parent.parent
 
 
 def crates():
