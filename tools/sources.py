@@ -41,6 +41,8 @@ class Function:
     result: str  # "" where nothing is returned
     requires: list
     ensures: list
+    start: int  # where its body starts in the file's text, and where it ends
+    end: int
     body: str
     calls: set  # the paths of what its code calls, where its names lead
 
@@ -127,27 +129,30 @@ def functions(crate):
         names = imports(text, here)
         impls = [(found.end() - 1, closing(text, found.end() - 1), found[1]) for found in re.finditer(r"^impl (\w+) \{", text, re.M)]
         for found in re.finditer(r"^[ \t]*(pub )?(?:pub\(\w+\) )?(?:extern \"C\" )?fn (\w+)(?:<[^>]*>)?\(", text, re.M):
-            end = closing(text, found.end() - 1)
-            at = end + 1
+            last = closing(text, found.end() - 1)
+            at = last + 1
             result = re.match(r"\s*->\s*(.*?)(?=\s*(?:\b(?:requires|ensures|ghost)\b|\{))", text[at:], re.S)
             at += result.end() if result else 0
             clauses = {"requires": [], "ensures": [], "ghost": []}
             while clause := re.match(r"\s*(requires|ensures|ghost)\b\s*\w*\s*\{", text[at:]):
-                last = closing(text, at + clause.end() - 1)
-                clauses[clause[1]].append(text[at + clause.end() : last].strip())
-                at = last + 1
+                end = closing(text, at + clause.end() - 1)
+                clauses[clause[1]].append(text[at + clause.end() : end].strip())
+                at = end + 1
             start = text.index("{", at)
-            body = text[start : closing(text, start) + 1]
+            stop = closing(text, start) + 1
+            body = text[start:stop]
             owner = [kind for first, last, kind in impls if first < found.start() < last]
             yield Function(
                 path="::".join([*here, *owner, found[2]]),
                 file=file,
                 line=text.count("\n", 0, found.start(2)) + 1,
                 public=bool(found[1]),
-                params=parameters(text[found.end() : end]),
+                params=parameters(text[found.end() : last]),
                 result=result[1].strip() if result else "",
                 requires=clauses["requires"],
                 ensures=clauses["ensures"],
+                start=start,
+                end=stop,
                 body=body,
                 calls=calls(body, here, names),
             )
