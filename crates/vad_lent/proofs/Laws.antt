@@ -21,6 +21,16 @@ use Rattle.vad_call.specs.declared.Heard.{Heard}
 use Rattle.vad_lent.specs.Inside.{putIn, settledIn}
 use Rattle.vad_lent.specs.Lent.{wholeAt, arraysIn}
 
+-- the three parts that are lent have their lengths
+pub parts-long : (fs : List Float) → 4396 ≤ length fs → (length (take 2048 fs) ≡ 2048) × (length (take 2048 (drop 2048 fs)) ≡ 2048) × (length (take 300 (drop 4096 fs)) ≡ 300)
+parts-long fs long =
+    let one = length-take 2048 fs in
+    let two = length-take 2048 (drop 2048 fs) in
+    let three = length-take 300 (drop 4096 fs) in
+    let second = length-drop 2048 fs in
+    let third = length-drop 4096 fs in
+    (omega arith, omega arith, omega arith)
+
 -- each part is lent and written before the next is
 module _ (n : ℕ) (fs carry held x y z : List Float) where
   abbrev first : List Float
@@ -92,6 +102,19 @@ module _ (k : Kept) (fs : List Float) (h : Heard) (values energies : List Float)
       go : (b : Bool) → cond b (putIn (k .rules .lengths .«frame_length») carry held fs) fs ≡ arraysIn (cond b (joinedOf (wholeAt k fs) (h .kept) carry held) (wholeAt k fs)) fs
       go true = joined k (h .kept) carry held fs
       go false = sym (arrays-back k fs)
+
+-- the answer of a call from what was heard, and what it leaves in the floats
+module _ (k : Kept) (fs : List Float) (h : Heard) (values energies : List Float) (ran : Detected) (same : ran ≡ settledOf h values energies (wholeAt k fs)) where
+  pub ran-refusal : h .refusal ≡ ran .refusal
+  unfolding settledOf
+  ran-refusal = sym (ap (λ (x : Detected). x .refusal) same)
+
+  pub ran-tally : h .tally ≡ ran .tally
+  unfolding settledOf
+  ran-tally = sym (ap (λ (x : Detected). x .tally) same)
+
+  pub ran-arrays : (out : List Float) → out ≡ settledIn (k .rules .lengths .«frame_length») h values energies fs → out ≡ arraysIn (ran .detector) fs
+  ran-arrays out e = e ∙ settled-arrays k fs h values energies ∙ sym (ap (λ (x : Detected). arraysIn (x .detector) fs) same)
 
 -- the two ways through `settle`
 module _ (n : ℕ) (h : Heard) (values energies fs : List Float) where

@@ -1,12 +1,10 @@
-use mathlib.Core.Path.{_≡_, refl, sym, ap, _∙_}
-use native.Mathlib.Omega.{arith}
-use lib.ListN.{drop, length-take, length-drop}
+use mathlib.Core.Path.{refl}
+use lib.ListN.{length}
 use Rattle.vad_state.specs.Kept.{wholeOf}
 use Rattle.vad_state.proofs.Parts.{parts, frame-high}
-use Rattle.vad_call.specs.Calls.{settledOf}
-use Rattle.vad_call.specs.declared.Detected.{Detected}
-use Rattle.vad_lent.specs.Lent.{wholeAt, arraysIn}
-use Rattle.vad_lent.proofs.Laws.{settled-arrays}
+use Rattle.vad_call.specs.Calls.{ranOf}
+use Rattle.vad_lent.specs.Lent.{wholeAt}
+use Rattle.vad_lent.proofs.Laws.{parts-long, ran-refusal, ran-tally, ran-arrays}
 use borrow.Author.Needs.{needs}
 use Rattle.vad_lent.proofs.run.Statement.{statement}
 use Rattle.vad_lent.proofs.run.Tie as tie
@@ -48,14 +46,8 @@ hear-requires : tie.Need-hear-requires
 unfolding wholeAt
 hear-requires c κs =
     let s = c .before .before .before .before .before .before .before .before .before .before in
-    let fs = s .args .floats .now in
-    let long = s .pre .1 .0 in
-    let one = length-take 2048 fs in
-    let two = length-take 2048 (drop 2048 fs) in
-    let three = length-take 300 (drop 4096 fs) in
-    let second = length-drop 2048 fs in
-    let third = length-drop 4096 fs in
-    (s .pre .0, ((omega arith, omega arith, omega arith, refl, refl), (s .pre .1 .1, s .pre .1 .2)))
+    let long = parts-long (s .args .floats .now) (s .pre .1 .0) in
+    (s .pre .0, ((long .0, long .1, long .2, refl, refl), (s .pre .1 .1, s .pre .1 .2)))
 
 slice-aggregate-settle : tie.Need-slice-aggregate-settle
 slice-aggregate-settle c = search needs
@@ -77,15 +69,16 @@ same-length-2 : tie.Need-same-length-2
 same-length-2 c = search needs
 
 returns : tie.Need-returns
-unfolding wholeAt settledOf
+unfolding wholeAt
 returns c =
     let h = c .before .before .before .before .before .before .before .before .before .before .hear in
     let s = c .before .before .before .before .before .before .before .before .before .before .before .before .before .before .before .before .before .before .before .before .before .args in
     let fs = s .floats .now in
-    let same = h .ensures .0 in
-    let arrays = settled-arrays (s .kept) fs (h .result) (h .last .1 .1 .1 .1 .1 .1 .0) (h .last .1 .1 .1 .1 .1 .1 .1 .0) in (
-      (sym (ap (λ (x : Detected). x .refusal) same), sym (ap (λ (x : Detected). x .tally) same), h .ensures .1 .0 .0),
-      (c .before .before .settle .ensures ∙ arrays ∙ sym (ap (λ (x : Detected). arraysIn (x .detector) fs) same), h .ensures .1 .1 .1),
+    let values = h .last .1 .1 .1 .1 .1 .1 .0 in
+    let energies = h .last .1 .1 .1 .1 .1 .1 .1 .0 in
+    let ran = ranOf (s .finish) (wholeAt (s .kept) fs) (s .samples .now) (length (s .rows .now)) in (
+      (ran-refusal (s .kept) fs (h .result) values energies ran (h .ensures .0), ran-tally (s .kept) fs (h .result) values energies ran (h .ensures .0), h .ensures .1 .0 .0),
+      (ran-arrays (s .kept) fs (h .result) values energies ran (h .ensures .0) _ (c .before .before .settle .ensures), h .ensures .1 .1 .1),
     )
 
 pub run-spec : {M : Type 1} → statement M
