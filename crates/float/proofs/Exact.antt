@@ -46,13 +46,13 @@ no-third (fin s m d) (fin u n g) (fin v p h) t e = clash (fieldOf (toBits binary
 -- ---- the exact fractions are the same
 cross-product : (a b g h k x y d e : ℕ) → a * h ≡ x * d → b * h ≡ y * e → a * b * g * (h * h * k) ≡ x * y * k * (d * e * g)
 cross-product a b g h k x y d e p q =
-    let l : a * b * g * (h * h * k) ≡ a * h * (b * h * (g * k)) = simp (mul-assoc, mul-comm, mul-left-comm) in
+    let l : a * b * g * (h * h * k) ≡ a * h * (b * h * (g * k)) = simp (mul-assoc, mul-left-comm) in
     let r : x * d * (y * e * (g * k)) ≡ x * y * k * (d * e * g) = simp (mul-assoc, mul-comm, mul-left-comm) in
     l ∙ ap₂ (λ (u v : ℕ). u * (v * (g * k))) p q ∙ r
 
 cross-addend : (c d e g h k z : ℕ) → c * h ≡ z * g → c * (d * e) * (h * h * k) ≡ z * (h * k) * (d * e * g)
 cross-addend c d e g h k z p =
-    let l : c * (d * e) * (h * h * k) ≡ c * h * (d * e * (h * k)) = simp (mul-assoc, mul-comm, mul-left-comm) in
+    let l : c * (d * e) * (h * h * k) ≡ c * h * (d * e * (h * k)) = simp (mul-assoc, mul-left-comm) in
     let r : z * g * (d * e * (h * k)) ≡ z * (h * k) * (d * e * g) = simp (mul-assoc, mul-comm, mul-left-comm) in
     l ∙ ap (λ (u : ℕ). u * (d * e * (h * k))) p ∙ r
 
@@ -62,7 +62,7 @@ product-of m n p q i =
     l ∙ ap (λ (z : ℕ). m * n * z) (ap (λ (z : ℕ). z * 2 ^ i) (sym (pow-add 2 p q)) ∙ sym (pow-add 2 (p + q) i))
   where
     regroup : (m n a b c : ℕ) → m * a * (n * b) * c ≡ m * n * (a * b * c)
-    regroup m n a b c = simp (mul-assoc, mul-comm, mul-left-comm)
+    regroup m n a b c = simp (mul-assoc, mul-left-comm)
 
 addend-of : (m q : ℕ) → m * 2 ^ q * (2 ^ 150 * 2 ^ 14) ≡ m * 2 ^ (q + 164)
 addend-of m q = mul-assoc m (2 ^ q) (2 ^ 150 * 2 ^ 14) ∙ ap (λ (z : ℕ). m * z) (sym (pow-add 2 q 164))

@@ -316,6 +316,10 @@ halve a b e = omega arith
 abbrev Short : ℕ → Type 0
 Short s = (q : ℕ) × (i : ℕ) × (q < 2 ^ 12) × (s ≡ q * 2 ^ i)
 
+-- twice such a number is one
+twice-short : (s k : ℕ) → s ≡ 2 * k → Short k → Short s
+twice-short s k t (q, i, l, e) = (q, suc i, l, t ∙ ap (λ (x : ℕ). 2 * x) e ∙ mul-left-comm 2 q (2 ^ i) ∙ ap (λ (x : ℕ). q * x) (mul-comm 2 (2 ^ i) ∙ sym (pow-suc 2 i)))
+
 short-root : (c s m : ℕ) → s * s ≡ m * 2 ^ c → m < 2 ^ 24 → Short s
 short-root zero s m e h = (s, 0, square-back s (2 ^ 12) (lt-of-le-of-lt (le-of-eq (e ∙ mul-one m)) h), sym (mul-one s))
 short-root (suc zero) s m e h =
@@ -331,8 +335,7 @@ short-root (suc (suc c)) s m e h =
     let p : m * 2 ^ suc (suc c) ≡ 2 * (2 * (m * 2 ^ c)) = ap (λ (x : ℕ). m * x) (pow-suc 2 (suc c) ∙ ap (λ (x : ℕ). x * 2) (pow-suc 2 c)) ∙ turn m (2 ^ c) in
     let t : s ≡ 2 * k = even-root s (2 * (m * 2 ^ c)) (e ∙ p) in
     let d : k * k ≡ m * 2 ^ c = halve (k * k) (m * 2 ^ c) (halve (2 * (k * k)) (2 * (m * 2 ^ c)) (sym (four k) ∙ sym (ap₂ (λ (x y : ℕ). x * y) t t) ∙ e ∙ p)) in
-    let r = short-root c k m d h in
-    (r .0, suc (r .1), r .2, t ∙ ap (λ (x : ℕ). 2 * x) (r .3) ∙ mul-left-comm 2 (r .0) (2 ^ r .1) ∙ ap (λ (x : ℕ). r .0 * x) (mul-comm 2 (2 ^ r .1) ∙ sym (pow-suc 2 (r .1))))
+    twice-short s k t (short-root c k m d h)
   where
     turn : (m k : ℕ) → m * (k * 2 * 2) ≡ 2 * (2 * (m * k))
     turn m k = simp (mul-assoc, mul-comm, mul-left-comm)
@@ -384,8 +387,11 @@ not-below x y z t p Y Z a b A B l =
     let m = middle s (short-root (o .1) s (o .0) (e ∙ o .6) (o .2)) big top in
     let h = m .1 in
     let near : n ≤ (a + h) * (a + h) = below-back x y (m .0) n a h (N .0) A (m .4) (Y .over (m .0) (m .2) (m .3) (units-less y (m .0) a h (Y .plus) (m .3) A (m .4) (left a b h (m .5) l))) in
-    lt-irrefl n (lt-of-le-of-lt near (lt-of-lt-of-le (square-lt (a + h) s (right a b h (m .5) l)) (le-of-eq e)))
+    beyond n s (a + h) near (right a b h (m .5) l) e
   where
+    beyond : (n s k : ℕ) → n ≤ k * k → k < s → s * s ≡ n → ⊥
+    beyond n s k near l e = lt-irrefl n (lt-of-le-of-lt near (lt-of-lt-of-le (square-lt k s l) (le-of-eq e)))
+
     far : (c : ℕ) → 150 < c → 24 < c
     far c h = omega arith
 

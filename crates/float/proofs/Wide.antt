@@ -62,7 +62,7 @@ bits-finite (fin s m e) h = tt
 -- ---- the product: 48 digits at most, and a place that f64 has
 cross : (a b h k x y d e : ℕ) → a * h ≡ x * d → b * h ≡ y * e → a * b * (h * h * k) ≡ x * y * k * (d * e)
 cross a b h k x y d e p q =
-    let l : a * b * (h * h * k) ≡ a * h * (b * h * k) = simp (mul-assoc, mul-comm, mul-left-comm) in
+    let l : a * b * (h * h * k) ≡ a * h * (b * h * k) = simp (mul-assoc, mul-left-comm) in
     let r : x * d * (y * e * k) ≡ x * y * k * (d * e) = simp (mul-assoc, mul-comm, mul-left-comm) in
     l ∙ ap₂ (λ (u v : ℕ). u * (v * k)) p q ∙ r
 
@@ -92,7 +92,7 @@ add-exact (fin t m e) r a c u l g C h =
         k ∙ ap (λ (z : ℕ). z * (g * g)) p ∙ j
 
     second : (y e c g : ℕ) → y * e * (c * g) ≡ y * c * (e * g)
-    second y e c g = simp (mul-assoc, mul-comm, mul-left-comm)
+    second y e c g = simp (mul-assoc, mul-left-comm)
 
 pub wide-is : (s : Bool) (m : ℕ) (e : ℤ) (t : Bool) (n : ℕ) (d : ℤ) (u : Bool) (l : ℕ) (g : ℤ) (x y : ℕ) → Decoded (fin s m e) x → Decoded (fin t n d) y
     → add binary64 (mul binary64 (fin s m e) (fin t n d)) (fin u l g) ≡ sum binary64 (unlike s t) (m * up e * (n * up d) * down g) u (l * up g * (down e * down d)) (down e * down d * down g)
