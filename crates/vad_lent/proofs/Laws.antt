@@ -122,9 +122,9 @@ module _ (n : ℕ) (h : Heard) (values energies fs : List Float) where
   unfolding settledIn
   settled-refused e = rw (ne-eqb (h .refusal .number) 0 e)
 
-  pub settled-put : h .refusal .number ≡ 0 → putIn n (take (h .consumed + h .kept .«carry_len» - h .consumed) (drop (h .consumed) values)) (take (h .kept .held - 0) energies) fs ≡ settledIn n h values energies fs
+  pub settled-put : (out : List Float) → h .refusal .number ≡ 0 → out ≡ putIn n (take (h .consumed + h .kept .«carry_len» - h .consumed) (drop (h .consumed) values)) (take (h .kept .held - 0) energies) fs → out ≡ settledIn n h values energies fs
   unfolding settledIn
-  settled-put e =
+  settled-put out e put =
       let long : h .consumed + h .kept .«carry_len» - h .consumed ≡ h .kept .«carry_len» = omega arith in
       let first : h .kept .held - 0 ≡ h .kept .held = omega arith in
-      rw (long, first, eq-eqb (h .refusal .number) 0 e)
+      put ∙ rw (long, first, eq-eqb (h .refusal .number) 0 e)

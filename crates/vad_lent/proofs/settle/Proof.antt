@@ -1,4 +1,4 @@
-use mathlib.Core.Path.{_≡_, _∙_}
+use mathlib.Core.Path.{_≡_}
 use Prim.Native.Nat.{_+_, _-_, _≤_}
 use native.Mathlib.Omega.{arith}
 use lib.ListN.{drop, length-take}
@@ -57,7 +57,7 @@ same-length c = search needs
 returns-2 : tie.Need-returns-2
 returns-2 c =
     let s = c .before .before .before .before .before .before .before .before .before .before .before .before .args in
-    c .before .before .put-arrays .ensures ∙ settled-put (s .frame-length) (s .heard) (s .values .now) (s .energies .now) (s .floats .now) (done (c .before .before .before .before .before .before .before))
+    settled-put (s .frame-length) (s .heard) (s .values .now) (s .energies .now) (s .floats .now) (c .before .before .put-arrays .last .0) (done (c .before .before .before .before .before .before .before)) (c .before .before .put-arrays .ensures)
 
 pub settle-spec : {M : Type 1} → statement M
 settle-spec =
