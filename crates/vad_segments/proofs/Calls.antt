@@ -7,6 +7,7 @@ use lib.Ieee.{Float, binary32, le, div}
 use Rattle.vad_segments.specs.Loudness.{ratioOf, requiredOf, loudOf, inSpeechOf, weightOf, floorOf}
 use Rattle.vad_segments.specs.Closing.{timeAt, chunkOf, droppedOf, timedOf}
 use Rattle.vad_segments.specs.Judging.{flooredTo, floorAfter, turnedOf, judgedOf}
+use Rattle.vad_segments.specs.declared.Judged.{Judged}
 use Rattle.vad_segments.specs.declared.Rules.{Rules}
 use Rattle.vad_segments.specs.declared.FrameMetrics.{FrameMetrics}
 use Rattle.vad_segments.specs.declared.Track.{Track}
@@ -21,9 +22,9 @@ pub judged-is : (r : Rules) (limit : ℕ) (t : Track) (f : FrameMetrics) (requir
     → speech ≡ inSpeechOf (r .config .«hangover_frames») (t .«active_segment») loud
     → weight ≡ weightOf (r .«speech_floor_rise») (r .config .«noise_smoothing») speech (t .«noise_floor») (f .energy)
     → floor ≡ floorOf (r .config .«energy_floor») weight (t .«noise_floor») (f .energy)
-    → turnedOf r limit (flooredTo floor t) f (div binary32 (f .energy) (t .«noise_floor»)) loud speech ≡ judgedOf r limit t f
+    → (j : Judged) → j ≡ turnedOf r limit (flooredTo floor t) f (div binary32 (f .energy) (t .«noise_floor»)) loud speech → j ≡ judgedOf r limit t f
 unfolding ratioOf loudOf floorAfter judgedOf
-judged-is r limit t f required weight floor loud speech q l s w e = rw (e, w, s, l, q)
+judged-is r limit t f required weight floor loud speech q l s w e j turned = rw (turned, e, w, s, l, q)
 
 -- ---- a segment closed
 

@@ -1,5 +1,3 @@
-use mathlib.Core.Path.{ap}
-use Prim.Native.Nat.{ℕ, _*_}
 use native.Mathlib.Omega.{arith}
 use lib.ListN.{length}
 use borrow.Author.Needs.{needs}
@@ -24,8 +22,7 @@ mul-lesser : tie.Need-mul-lesser
 mul-lesser c =
     let m = c .before .before .before in
     let g = m .before .before .before .before .before .args in
-    let n = ap (λ (k : ℕ). k * g .hop-length) (m .measure .ensures .0) in
-    let w = frames-within (g .finish) (length (g .window .now)) (g .hop-length) (omega arith) (g .values .now) in
+    let w = rw (← m .measure .ensures .0) at (frames-within (g .finish) (length (g .window .now)) (g .hop-length) (omega arith) (g .values .now)) in
     search needs
 
 lesser-requires : tie.Need-lesser-requires

@@ -1,4 +1,3 @@
-use mathlib.Core.Path.{_∙_}
 use Rattle.vad_segments.specs.Judging.{flooredTo}
 use Rattle.vad_segments.proofs.Calls.{judged-is}
 use borrow.Author.Needs.{needs}
@@ -32,7 +31,7 @@ returns c =
     let weight = c .before .before .floor-weight in
     let floor = c .before .next-floor in
     let s = c .before .before .before .before .before .before .before .before .args in
-    c .turn .ensures ∙ judged-is (s .rules) (s .limit) (s .track) (s .frame) (required .result) (weight .result) (floor .result) (loud .result) (speech .result) (required .ensures) (loud .ensures) (speech .ensures) (weight .ensures) (floor .ensures)
+    judged-is (s .rules) (s .limit) (s .track) (s .frame) (required .result) (weight .result) (floor .result) (loud .result) (speech .result) (required .ensures) (loud .ensures) (speech .ensures) (weight .ensures) (floor .ensures) (c .turn .result) (c .turn .ensures)
 
 pub judge-spec : {M : Type 1} → statement M
 judge-spec =
