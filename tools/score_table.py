@@ -6,8 +6,8 @@ repository to them.
   tools/score_table.py --check    names each file that is not what it would write; exit status 1 if there is one
 
 The files: crates/score/src/thresholds.rt (entry k is the bits of the least f32 above 0 whose 1,024th power reaches 10^k, for k from 0 to
-1,024), crates/score/proofs/Entries.antt (the same table with its rule), crates/replay/stdin (ratios, as little-endian f32) and
-crates/replay/stdout (what the program must print for them).
+1,024), crates/score/proofs/Entries.antt (the same table with its rule), crates/score_replay/stdin (ratios, as little-endian f32) and
+crates/score_replay/stdout (what the program must print for them).
 """
 import argparse
 import math
@@ -162,8 +162,8 @@ def files():
     return {
         "crates/score/src/thresholds.rt": source(table).encode(),
         "crates/score/proofs/Entries.antt": proof(table).encode(),
-        "crates/replay/stdin": struct.pack(f"<{len(listed)}I", *listed),
-        "crates/replay/stdout": "".join(f"{n:08x} {score(n)}\n" for n in listed).encode(),
+        "crates/score_replay/stdin": struct.pack(f"<{len(listed)}I", *listed),
+        "crates/score_replay/stdout": "".join(f"{n:08x} {score(n)}\n" for n in listed).encode(),
     }
 
 

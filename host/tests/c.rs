@@ -25,7 +25,7 @@ fn a_c_program_uses_the_door() {
         .arg("-I")
         .arg(root.join("include"))
         .arg(root.join("host/tests/c/door.c"))
-        .arg(Path::new(env!("HUB_LIBRARY")).join("libhub.a"))
+        .arg(Path::new(env!("FALLOWCART_LIBRARY")).join("libfallowcart.a"))
         .arg("-pthread")
         .arg("-o")
         .arg(&program)

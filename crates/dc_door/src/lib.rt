@@ -1,5 +1,5 @@
 // The filter's door. The host keeps the state as words, 25 of them, whose layout specs/FilterState.antt says; every input is answered.
-// The crate hub exports the four entry points, since only a library's own functions get a C name.
+// The crate fallowcart exports the four entry points, since only a library's own functions get a C name.
 ghost use mathlib.Core.Path.{_≡_};
 ghost use mathlib.Core.Bool.{cond};
 ghost use lib.Dec.{eqb};

@@ -1,4 +1,4 @@
-// The detector's door: its entry points, which the crate hub exports. The host keeps the state as numbers and floats, laid out as vad_memory says; every input is answered.
+// The detector's door: its entry points, which the crate fallowcart exports. The host keeps the state as numbers and floats, laid out as vad_memory says; every input is answered.
 ghost use mathlib.Core.Path.{_≡_};
 ghost use mathlib.Core.Bool.{true, cond};
 ghost use Prim.Native.Nat.{_+_, _≤_, _<_, _^_};
