@@ -22,9 +22,9 @@ pub struct SpeechChunk {
     /// The scores of its loud frames, each from 0 to 1,024.
     pub score_total: u64,
     /// Its loud frames; those of the hangover are not counted.
-    pub frame_count: u64,
+    pub loud_frames: u64,
     /// Mean energy of its loud frames: the root mean square of a frame after pre-emphasis and windowing.
-    pub avg_energy: f32,
+    pub mean_energy: f32,
 }
 
 impl SpeechChunk {
@@ -35,7 +35,7 @@ impl SpeechChunk {
             start_time,
             end_time,
             score_total,
-            frame_count,
+            loud_frames,
             energy,
         ] = *row;
         SpeechChunk {
@@ -44,14 +44,14 @@ impl SpeechChunk {
             start_time,
             end_time,
             score_total,
-            frame_count,
-            avg_energy: f32::from_bits(energy as u32),
+            loud_frames,
+            mean_energy: f32::from_bits(energy as u32),
         }
     }
 
     /// How far the loud frames rise above the noise floor, from 0 (at the floor) to 1 (20 dB or more above it).
     pub fn confidence(&self) -> f64 {
-        self.score_total as f64 / (1024.0 * self.frame_count.max(1) as f64)
+        self.score_total as f64 / (1024.0 * self.loud_frames.max(1) as f64)
     }
 }
 

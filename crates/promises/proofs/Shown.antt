@@ -65,7 +65,7 @@ after blocks loud ended rows talk active =
 -- an open segment of one loud frame, and the pause in it
 abbrev openAt : ℕ → ℕ → ActiveSegment
 openAt start silence =
-    Open record { «start_sample» = start; «last_end_sample» = start + 8; «score_total» = 1024; «energy_sum» = ofBits binary32 0x3F80_0000; «frame_count» = 1; «silence_run» = silence }
+    Open record { «start_sample» = start; «last_end_sample» = start + 8; «score_total» = 1024; «energy_sum» = ofBits binary32 0x3F80_0000; «loud_frames» = 1; «silence_run» = silence }
 
 abbrev opened : VadDetector
 opened = stateOf 0 0 true (freshTrack (floorAt false))

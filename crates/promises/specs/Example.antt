@@ -52,8 +52,8 @@ rowOf from to =
       «start_time» = from * 125000;
       «end_time» = to * 125000;
       «score_total» = 1024;
-      «frame_count» = 1;
-      «avg_energy» = 0x3F80_0000;
+      «loud_frames» = 1;
+      «mean_energy» = 0x3F80_0000;
     }
 
 -- frames, how many of them are loud, the floor, and how many rows

@@ -77,8 +77,8 @@ longer r =
       «start_time» = r .«start_time»;
       «end_time» = r .«end_time»;
       «score_total» = r .«score_total»;
-      «frame_count» = r .«frame_count»;
-      «avg_energy» = r .«avg_energy»;
+      «loud_frames» = r .«loud_frames»;
+      «mean_energy» = r .«mean_energy»;
     }
 
 unfoldable pub padsOn : List Seen → Seen → Seen

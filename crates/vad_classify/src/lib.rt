@@ -112,8 +112,8 @@ fn put_row(rows: &mut [u64], at: usize, chunk: SpeechChunk) -> usize
     rows[at + 2] = chunk.start_time;
     rows[at + 3] = chunk.end_time;
     rows[at + 4] = chunk.score_total;
-    rows[at + 5] = chunk.frame_count;
-    rows[at + 6] = chunk.avg_energy;
+    rows[at + 5] = chunk.loud_frames;
+    rows[at + 6] = chunk.mean_energy;
     at + ROW_FIELDS
 }
 

@@ -72,7 +72,7 @@ segmentAt ns fs =
       «last_end_sample» = wordAt ns 21;
       «score_total» = wordAt ns 22;
       «energy_sum» = floatAt fs 4406;
-      «frame_count» = wordAt ns 23;
+      «loud_frames» = wordAt ns 23;
       «silence_run» = wordAt ns 24;
     }
 
@@ -136,7 +136,7 @@ ruleNumbers r =
 unfoldable pub activeNumbers : ActiveSegment → List ℕ
 activeNumbers Closed = 0 ∷ 0 ∷ 0 ∷ 0 ∷ 0 ∷ 0 ∷ []
 activeNumbers (Open s) =
-    1 ∷ s .«start_sample» ∷ s .«last_end_sample» ∷ s .«score_total» ∷ s .«frame_count» ∷ s .«silence_run» ∷ []
+    1 ∷ s .«start_sample» ∷ s .«last_end_sample» ∷ s .«score_total» ∷ s .«loud_frames» ∷ s .«silence_run» ∷ []
 
 unfoldable pub trackNumbers : Track → List ℕ
 trackNumbers t = t .«last_segment_end» ∷ t .«rows_reported» ∷ t .«talk_samples» ∷ activeNumbers (t .«active_segment»)

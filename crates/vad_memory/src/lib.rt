@@ -107,7 +107,7 @@ fn segment_at(numbers: &[u64], floats: &[f32]) -> ActiveSegmentState
         last_end_sample: numbers[21],
         score_total: numbers[22],
         energy_sum: floats[4406],
-        frame_count: numbers[23],
+        loud_frames: numbers[23],
         silence_run: numbers[24],
     }
 }
@@ -200,7 +200,7 @@ struct Segment {
 }
 
 fn segment_of(track: Track) -> Segment
-    ensures { λ r. ⌜ r .«open» ∷ r .segment .«start_sample» ∷ r .segment .«last_end_sample» ∷ r .segment .«score_total» ∷ r .segment .«frame_count» ∷ r .segment .«silence_run» ∷ [] ≡ activeNumbers (track .«active_segment») ⌝ }
+    ensures { λ r. ⌜ r .«open» ∷ r .segment .«start_sample» ∷ r .segment .«last_end_sample» ∷ r .segment .«score_total» ∷ r .segment .«loud_frames» ∷ r .segment .«silence_run» ∷ [] ≡ activeNumbers (track .«active_segment») ⌝ }
     ensures { λ r. ⌜ r .segment .«energy_sum» ≡ activeEnergy (track .«active_segment») ⌝ }
 {
     let active = track.active_segment;
@@ -212,7 +212,7 @@ fn segment_of(track: Track) -> Segment
                 last_end_sample: 0,
                 score_total: 0,
                 energy_sum: 0.0,
-                frame_count: 0,
+                loud_frames: 0,
                 silence_run: 0,
             },
         },
@@ -248,7 +248,7 @@ fn numbers_of(kept: Kept, tally: Tally) -> [u64; 29]
         active.segment.start_sample,
         active.segment.last_end_sample,
         active.segment.score_total,
-        active.segment.frame_count,
+        active.segment.loud_frames,
         active.segment.silence_run,
         tally.frames as u64,
         tally.loud as u64,

@@ -162,7 +162,7 @@ segmentFrom ws =
       «last_end_sample» = getD ws 5 0;
       «score_total» = getD ws 6 0;
       «energy_sum» = ofBits binary32 (getD ws 7 0);
-      «frame_count» = getD ws 8 0;
+      «loud_frames» = getD ws 8 0;
       «silence_run» = getD ws 9 0;
     })
 
@@ -179,7 +179,7 @@ trackFrom ws =
 abbrev pub segmentWords : ActiveSegment → List ℕ
 segmentWords Closed = []
 segmentWords (Open s) =
-    s .«start_sample» ∷ s .«last_end_sample» ∷ s .«score_total» ∷ toBits binary32 (s .«energy_sum») ∷ s .«frame_count» ∷ s .«silence_run» ∷ []
+    s .«start_sample» ∷ s .«last_end_sample» ∷ s .«score_total» ∷ toBits binary32 (s .«energy_sum») ∷ s .«loud_frames» ∷ s .«silence_run» ∷ []
 
 abbrev pub trackWords : Track → List ℕ
 trackWords t =

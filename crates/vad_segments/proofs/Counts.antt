@@ -26,7 +26,7 @@ use Rattle.vad_segments.proofs.Ordered.{judged-adds, ended-adds, after-
 
 -- at least one loud frame, a score of at most 1,024 for each, and a silence run that the hangover bears
 abbrev pub SegmentCounted : ℕ → ActiveSegmentState → Type 0
-SegmentCounted hangover s = (s .«score_total» ≤ 1024 * s .«frame_count») × (1 ≤ s .«frame_count») × (s .«silence_run» ≤ hangover)
+SegmentCounted hangover s = (s .«score_total» ≤ 1024 * s .«loud_frames») × (1 ≤ s .«loud_frames») × (s .«silence_run» ≤ hangover)
 
 -- if one is open
 abbrev pub ActiveCounted : ℕ → ActiveSegment → Type 0
@@ -36,7 +36,7 @@ ActiveCounted hangover (Open s) = SegmentCounted hangover s
 -- the loud frames of the open segment, and 0 where none is open
 abbrev pub countIn : ActiveSegment → ℕ
 countIn Closed = 0
-countIn (Open s) = s .«frame_count»
+countIn (Open s) = s .«loud_frames»
 
 heard-counted : (hangover start : ℕ) (f : FrameMetrics) (ratio : Float) (a : ActiveSegment) → ActiveCounted hangover a → SegmentCounted hangover (extendedBy f ratio (segmentFor a start))
 unfolding extendedBy segmentFor begunAt
@@ -71,7 +71,7 @@ call-counted finish r limit t fs h = ended-active (ActiveCounted (r .config .«h
 heard-grows : (start : ℕ) (f : FrameMetrics) (ratio : Float) (a : ActiveSegment) → countIn (Open (extendedBy f ratio (segmentFor a start))) ≤ suc (countIn a)
 unfolding extendedBy segmentFor begunAt
 heard-grows start f ratio Closed = le-refl 1
-heard-grows start f ratio (Open s) = le-refl (suc (s .«frame_count»))
+heard-grows start f ratio (Open s) = le-refl (suc (s .«loud_frames»))
 
 paused-grows : (a : ActiveSegment) → countIn (pausedBy a) ≤ suc (countIn a)
 unfolding pausedBy

@@ -49,7 +49,7 @@ flat-row r = append-nil (fieldsOf r)
 
 -- one row's stores
 pub row-sets : (l : List ℕ) (at : ℕ) (r : SpeechChunk)
-    → set (set (set (set (set (set (set l at (r .«start_sample»)) (at + 1) (r .«end_sample»)) (at + 2) (r .«start_time»)) (at + 3) (r .«end_time»)) (at + 4) (r .«score_total»)) (at + 5) (r .«frame_count»)) (at + 6) (r .«avg_energy») ≡ sets l at (fieldsOf r)
+    → set (set (set (set (set (set (set l at (r .«start_sample»)) (at + 1) (r .«end_sample»)) (at + 2) (r .«start_time»)) (at + 3) (r .«end_time»)) (at + 4) (r .«score_total»)) (at + 5) (r .«loud_frames»)) (at + 6) (r .«mean_energy») ≡ sets l at (fieldsOf r)
 unfolding fieldsOf
 row-sets l at r =
     let a : at + 1 ≡ suc at = omega arith in

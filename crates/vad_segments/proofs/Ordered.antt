@@ -134,7 +134,7 @@ timed-is c limit prev start end s a h g = rw (times-apart c start end a h g)
 -- what the test that a run is long enough says
 lasts : (c : VadConfig) (s : ActiveSegmentState) → tooShort c s ≡ false → s .«start_sample» < s .«last_end_sample»
 unfolding tooShort
-lasts c s = go (leb (s .«last_end_sample») (s .«start_sample»)) (ltb (s .«frame_count») (c .«min_speech_frames»)) (leb-false (s .«last_end_sample») (s .«start_sample»))
+lasts c s = go (leb (s .«last_end_sample») (s .«start_sample»)) (ltb (s .«loud_frames») (c .«min_speech_frames»)) (leb-false (s .«last_end_sample») (s .«start_sample»))
   where
     go : (x y : Bool) → (x ≡ false → s .«start_sample» < s .«last_end_sample») → (x || y) ≡ false → s .«start_sample» < s .«last_end_sample»
     go true y f h = absurd (true≢false h)

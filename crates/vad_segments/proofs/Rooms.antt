@@ -76,7 +76,7 @@ active-up p q b c l m (Open s) h = (omega arith, omega arith, omega arith, omega
 pub within-up : (p q b c : ℕ) → p ≤ q → b ≤ c → (t : Track) → Within p b t → Within q c t
 within-up p q b c l m t h = (omega arith, omega arith, omega arith, active-up p q b c l m (t .«active_segment») (h .3))
 
-pub segment-counts : (p b : ℕ) (a : ActiveSegment) (start : ℕ) → ActiveWithin p b a → (segmentFor a start .«score_total» ≤ b) × (segmentFor a start .«frame_count» ≤ b)
+pub segment-counts : (p b : ℕ) (a : ActiveSegment) (start : ℕ) → ActiveWithin p b a → (segmentFor a start .«score_total» ≤ b) × (segmentFor a start .«loud_frames» ≤ b)
 unfolding segmentFor begunAt
 segment-counts p b Closed start h = (omega arith, omega arith)
 segment-counts p b (Open s) start h = (omega arith, omega arith)

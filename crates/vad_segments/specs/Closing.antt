@@ -23,7 +23,7 @@ use Rattle.vad_segments.specs.declared.Judged.{Judged}
 
 -- 'mean energy (the loud count first rounded to f32, ties to even)'; a segment has a loud frame, so the Rust's `max(1)` never takes effect
 unfoldable pub meanEnergyOf : ActiveSegmentState → Float
-meanEnergyOf s = div binary32 (s .«energy_sum») (ofInt binary32 (pos (max 1 (s .«frame_count»))))
+meanEnergyOf s = div binary32 (s .«energy_sum») (ofInt binary32 (pos (max 1 (s .«loud_frames»))))
 
 unfoldable pub timeAt : VadConfig → ℕ → ℕ
 timeAt c n = timeOfSampleOf (c .«stream_start_time») (c .«sample_rate») n
@@ -37,8 +37,8 @@ chunkOf c start end s =
       «start_time» = timeAt c start;
       «end_time» = timeAt c end;
       «score_total» = s .«score_total»;
-      «frame_count» = s .«frame_count»;
-      «avg_energy» = toBits binary32 (meanEnergyOf s);
+      «loud_frames» = s .«loud_frames»;
+      «mean_energy» = toBits binary32 (meanEnergyOf s);
     }
 
 -- 'A row is seven u64'
@@ -49,8 +49,8 @@ fieldsOf r =
     ∷ r .«start_time»
     ∷ r .«end_time»
     ∷ r .«score_total»
-    ∷ r .«frame_count»
-    ∷ r .«avg_energy»
+    ∷ r .«loud_frames»
+    ∷ r .«mean_energy»
     ∷ []
 
 abbrev pub rowWidth : ℕ
@@ -91,7 +91,7 @@ droppedOf limit prev s = record { end = max (min (s .«last_end_sample») limit)
 
 -- 'runs under `min_speech_frames`, or with last loud end not past the start, are dropped'
 unfoldable pub tooShort : VadConfig → ActiveSegmentState → Bool
-tooShort c s = leb (s .«last_end_sample») (s .«start_sample») || ltb (s .«frame_count») (c .«min_speech_frames»)
+tooShort c s = leb (s .«last_end_sample») (s .«start_sample») || ltb (s .«loud_frames») (c .«min_speech_frames»)
 
 -- a row, unless its end's time is not past its start's, which never is so either
 unfoldable pub timedOf : VadConfig → ℕ → ℕ → ℕ → ℕ → ActiveSegmentState → Finalized

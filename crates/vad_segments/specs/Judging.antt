@@ -47,7 +47,7 @@ begunAt start =
       «last_end_sample» = start;
       «score_total» = 0;
       «energy_sum» = ofBits binary32 0;
-      «frame_count» = 0;
+      «loud_frames» = 0;
       «silence_run» = 0;
     }
 
@@ -63,7 +63,7 @@ extendedBy f ratio s =
       «last_end_sample» = f .«end_sample»;
       «score_total» = s .«score_total» + scoreOf ratio;
       «energy_sum» = add binary32 (s .«energy_sum») (f .energy);
-      «frame_count» = suc (s .«frame_count»);
+      «loud_frames» = suc (s .«loud_frames»);
       «silence_run» = 0;
     }
 
@@ -81,7 +81,7 @@ pausedBy (Open s) =
       «last_end_sample» = s .«last_end_sample»;
       «score_total» = s .«score_total»;
       «energy_sum» = s .«energy_sum»;
-      «frame_count» = s .«frame_count»;
+      «loud_frames» = s .«loud_frames»;
       «silence_run» = suc (s .«silence_run»);
     }
 

@@ -12,7 +12,7 @@ LengthsWithin l = (l .«frame_length» ≤ 65536) × (l .«hop_length» ≤ 6553
 
 -- positions at most p, counts at most b
 abbrev pub SegmentWithin : ℕ → ℕ → ActiveSegmentState → Type 0
-SegmentWithin p b s = (s .«start_sample» ≤ p) × (s .«last_end_sample» ≤ p) × (s .«score_total» ≤ b) × (s .«frame_count» ≤ b) × (s .«silence_run» ≤ b)
+SegmentWithin p b s = (s .«start_sample» ≤ p) × (s .«last_end_sample» ≤ p) × (s .«score_total» ≤ b) × (s .«loud_frames» ≤ b) × (s .«silence_run» ≤ b)
 
 abbrev pub ActiveWithin : ℕ → ℕ → ActiveSegment → Type 0
 ActiveWithin p b Closed = Unit {0}

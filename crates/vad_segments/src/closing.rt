@@ -21,7 +21,7 @@ use vad_config::VadConfig;
 fn mean_energy(segment: ActiveSegmentState) -> f32
     ensures { λ r. ⌜ r ≡ meanEnergyOf segment ⌝ }
 {
-    segment.energy_sum / float::whole::nearest(greater(1, segment.frame_count))
+    segment.energy_sum / float::whole::nearest(greater(1, segment.loud_frames))
 }
 
 fn time_at(config: VadConfig, sample: u64) -> u64
@@ -40,8 +40,8 @@ fn speech_chunk(config: VadConfig, start: u64, end: u64, segment: ActiveSegmentS
         start_time: time_at(config, start),
         end_time: time_at(config, end),
         score_total: segment.score_total,
-        frame_count: segment.frame_count,
-        avg_energy: float::to_bits(mean_energy(segment)) as u64,
+        loud_frames: segment.loud_frames,
+        mean_energy: float::to_bits(mean_energy(segment)) as u64,
     }
 }
 
@@ -59,7 +59,7 @@ fn too_short(config: VadConfig, segment: ActiveSegmentState) -> bool
     ensures { λ r. ⌜ r ≡ tooShort config segment ⌝ }
 {
     segment.last_end_sample <= segment.start_sample
-        || segment.frame_count < config.min_speech_frames
+        || segment.loud_frames < config.min_speech_frames
 }
 
 fn padded_start(padding: u64, prev_end: u64, segment: ActiveSegmentState) -> u64

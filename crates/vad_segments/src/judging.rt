@@ -54,7 +54,7 @@ fn segment_for(active: ActiveSegment, start: u64) -> ActiveSegmentState
             last_end_sample: start,
             score_total: 0,
             energy_sum: 0.0,
-            frame_count: 0,
+            loud_frames: 0,
             silence_run: 0,
         },
         ActiveSegment::Open(segment) => segment,
@@ -63,7 +63,7 @@ fn segment_for(active: ActiveSegment, start: u64) -> ActiveSegmentState
 
 // Only loud frames extend the segment.
 fn extend(segment: ActiveSegmentState, frame: FrameMetrics, ratio: f32) -> ActiveSegmentState
-    requires { ⌜ (segment .«score_total» ≤ 2 ^ 62) × (segment .«frame_count» ≤ 2 ^ 62) ⌝ }
+    requires { ⌜ (segment .«score_total» ≤ 2 ^ 62) × (segment .«loud_frames» ≤ 2 ^ 62) ⌝ }
     ensures { λ r. ⌜ r ≡ extendedBy frame ratio segment ⌝ }
 {
     ActiveSegmentState {
@@ -71,7 +71,7 @@ fn extend(segment: ActiveSegmentState, frame: FrameMetrics, ratio: f32) -> Activ
         last_end_sample: frame.end_sample,
         score_total: segment.score_total + score::score(ratio),
         energy_sum: segment.energy_sum + frame.energy,
-        frame_count: segment.frame_count + 1,
+        loud_frames: segment.loud_frames + 1,
         silence_run: 0,
     }
 }

@@ -31,7 +31,7 @@ pub struct ActiveSegmentState {
     pub score_total: u64,
     pub energy_sum: f32,
     // Loud frames; those of the hangover are not counted.
-    pub frame_count: u64,
+    pub loud_frames: u64,
     // Quiet frames since the last loud one.
     pub silence_run: u64,
 }
@@ -52,15 +52,15 @@ pub struct Track {
     pub active_segment: ActiveSegment,
 }
 
-// A row; `avg_energy` is the f32's bits.
+// A row; `mean_energy` is the f32's bits.
 pub struct SpeechChunk {
     pub start_sample: u64,
     pub end_sample: u64,
     pub start_time: u64,
     pub end_time: u64,
     pub score_total: u64,
-    pub frame_count: u64,
-    pub avg_energy: u64,
+    pub loud_frames: u64,
+    pub mean_energy: u64,
 }
 
 pub enum Report {

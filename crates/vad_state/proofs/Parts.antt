@@ -30,9 +30,9 @@ pub record SegmentIn (hangover received last : ℕ) (s : ActiveSegmentState) : T
   pub after : last ≤ s .«start_sample»
   pub start : s .«start_sample» ≤ received
   pub loud-end : s .«last_end_sample» ≤ received
-  pub some : 1 ≤ s .«frame_count»
-  pub count : s .«frame_count» ≤ received
-  pub score : s .«score_total» ≤ 1024 * s .«frame_count»
+  pub some : 1 ≤ s .«loud_frames»
+  pub count : s .«loud_frames» ≤ received
+  pub score : s .«score_total» ≤ 1024 * s .«loud_frames»
   pub energy : within zero32 (s .«energy_sum») total32 ≡ true
   pub silence : s .«silence_run» ≤ hangover
 
@@ -166,9 +166,9 @@ segment-parts hangover received last s h =
     let a = leb last (s .«start_sample») in
     let b = leb (s .«start_sample») received in
     let c = leb (s .«last_end_sample») received in
-    let e = ltb 0 (s .«frame_count») in
-    let f = leb (s .«frame_count») received in
-    let g = leb (s .«score_total») (1024 * s .«frame_count») in
+    let e = ltb 0 (s .«loud_frames») in
+    let f = leb (s .«loud_frames») received in
+    let g = leb (s .«score_total») (1024 * s .«loud_frames») in
     let w = within zero32 (s .«energy_sum») total32 in
     let t = both (a && b && c && e && f && g && w) (leb (s .«silence_run») hangover) h in
     let u = both (a && b && c && e && f && g) w (t .0) in

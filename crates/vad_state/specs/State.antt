@@ -94,9 +94,9 @@ segmentSound hangover received last s =
     leb last (s .«start_sample»)
     && leb (s .«start_sample») received
     && leb (s .«last_end_sample») received
-    && ltb 0 (s .«frame_count»)
-    && leb (s .«frame_count») received
-    && leb (s .«score_total») (1024 * s .«frame_count»)
+    && ltb 0 (s .«loud_frames»)
+    && leb (s .«loud_frames») received
+    && leb (s .«score_total») (1024 * s .«loud_frames»)
     && within zero32 (s .«energy_sum») total32
     && leb (s .«silence_run») hangover
 

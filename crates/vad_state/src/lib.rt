@@ -203,13 +203,13 @@ fn segment_sound(
     if received < segment.last_end_sample {
         return false;
     }
-    if segment.frame_count == 0 {
+    if segment.loud_frames == 0 {
         return false;
     }
-    if received < segment.frame_count {
+    if received < segment.loud_frames {
         return false;
     }
-    if 1024 * segment.frame_count < segment.score_total {
+    if 1024 * segment.loud_frames < segment.score_total {
         return false;
     }
     if !ranges::inside(0.0, segment.energy_sum, 1152921504606846976.0) {

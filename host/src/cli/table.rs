@@ -23,8 +23,8 @@ pub fn row(tsv: bool, row: &SpeechChunk) -> String {
             row.end_time,
             row.confidence(),
             row.score_total,
-            row.frame_count,
-            row.avg_energy,
+            row.loud_frames,
+            row.mean_energy,
         );
     }
     format!(
@@ -33,8 +33,8 @@ pub fn row(tsv: bool, row: &SpeechChunk) -> String {
         clock(row.end_time),
         (row.end_time - row.start_time) as f64 / 1e9,
         row.confidence(),
-        row.frame_count,
-        row.avg_energy,
+        row.loud_frames,
+        row.mean_energy,
     )
 }
 

@@ -20,7 +20,7 @@ returns c =
     let s = c .before .before .before .before .args in
     let k = c .before .before .before .segment-of in
     let g = k .result .segment in
-    numbers-are (s .kept) (s .tally) (k .result .«open») (g .«start_sample») (g .«last_end_sample») (g .«score_total») (g .«frame_count») (g .«silence_run») (k .ensures .0)
+    numbers-are (s .kept) (s .tally) (k .result .«open») (g .«start_sample») (g .«last_end_sample») (g .«score_total») (g .«loud_frames») (g .«silence_run») (k .ensures .0)
 
 pub numbers-of-spec : {M : Type 1} → statement M
 numbers-of-spec =

@@ -23,16 +23,16 @@ start k =
 loud-end : (k : tie.Else3) → let s = k .before .before .before .before .before .before .args in leb (s .segment .«last_end_sample») (s .received) ≡ true
 loud-end k = le-leb _ _ (k .if3 .left)
 
-some : (k : tie.Else4) → ltb 0 (k .before .before .before .before .before .before .before .before .args .segment .«frame_count») ≡ true
+some : (k : tie.Else4) → ltb 0 (k .before .before .before .before .before .before .before .before .args .segment .«loud_frames») ≡ true
 some k =
-    let n = k .before .before .before .before .before .before .before .before .args .segment .«frame_count» in
+    let n = k .before .before .before .before .before .before .before .before .args .segment .«loud_frames» in
     let one : 0 < n = omega (arith, k .if4 .left) in
     lt-ltb _ _ one
 
-count : (k : tie.Else5) → let s = k .before .before .before .before .before .before .before .before .before .before .args in leb (s .segment .«frame_count») (s .received) ≡ true
+count : (k : tie.Else5) → let s = k .before .before .before .before .before .before .before .before .before .before .args in leb (s .segment .«loud_frames») (s .received) ≡ true
 count k = le-leb _ _ (k .if5 .left)
 
-score : (k : tie.Else6) → let s = k .before .before .before .before .before .before .before .before .before .before .before .before .before .args in leb (s .segment .«score_total») (1024 * s .segment .«frame_count») ≡ true
+score : (k : tie.Else6) → let s = k .before .before .before .before .before .before .before .before .before .before .before .before .before .args in leb (s .segment .«score_total») (1024 * s .segment .«loud_frames») ≡ true
 score k = le-leb _ _ (k .if6 .left)
 
 energy : (k : tie.Else7) → within zero32 (k .before .before .before .before .before .before .before .before .before .before .before .before .before .before .before .args .segment .«energy_sum») total32 ≡ true
@@ -61,14 +61,14 @@ returns-4 : tie.Need-returns-4
 unfolding segmentSound
 returns-4 c =
     let s = c .before .before .before .before .before .before .before .before .args in
-    let none : s .segment .«frame_count» ≤ 0 = omega (arith, c .if4 .taken) in
-    simp (after (c .before .before .before .before .before .before), start (c .before .before .before .before), loud-end (c .before .before), le-ltb 0 (s .segment .«frame_count») none)
+    let none : s .segment .«loud_frames» ≤ 0 = omega (arith, c .if4 .taken) in
+    simp (after (c .before .before .before .before .before .before), start (c .before .before .before .before), loud-end (c .before .before), le-ltb 0 (s .segment .«loud_frames») none)
 
 returns-5 : tie.Need-returns-5
 unfolding segmentSound
 returns-5 c =
     let s = c .before .before .before .before .before .before .before .before .before .before .args in
-    simp (after (c .before .before .before .before .before .before .before .before), start (c .before .before .before .before .before .before), loud-end (c .before .before .before .before), some (c .before .before), lt-leb (s .segment .«frame_count») (s .received) (c .if5 .taken))
+    simp (after (c .before .before .before .before .before .before .before .before), start (c .before .before .before .before .before .before), loud-end (c .before .before .before .before), some (c .before .before), lt-leb (s .segment .«loud_frames») (s .received) (c .if5 .taken))
 
 mul-if6 : tie.Need-mul-if6
 mul-if6 c = search needs
@@ -77,7 +77,7 @@ returns-6 : tie.Need-returns-6
 unfolding segmentSound
 returns-6 c =
     let s = c .before .before .before .before .before .before .before .before .before .before .before .before .before .args in
-    simp (after (c .before .before .before .before .before .before .before .before .before .before .before), start (c .before .before .before .before .before .before .before .before .before), loud-end (c .before .before .before .before .before .before .before), some (c .before .before .before .before .before), count (c .before .before .before), lt-leb (s .segment .«score_total») (1024 * s .segment .«frame_count») (c .if6 .taken))
+    simp (after (c .before .before .before .before .before .before .before .before .before .before .before), start (c .before .before .before .before .before .before .before .before .before), loud-end (c .before .before .before .before .before .before .before), some (c .before .before .before .before .before), count (c .before .before .before), lt-leb (s .segment .«score_total») (1024 * s .segment .«loud_frames») (c .if6 .taken))
 
 inside-requires : tie.Need-inside-requires
 inside-requires c κs = search needs
