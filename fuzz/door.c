@@ -47,7 +47,7 @@ static void *guarded(size_t size) {
     return base + pages - size;
 }
 
-enum { NUMBERS = FALLOWCART_VAD_NUMBERS, FLOATS = FALLOWCART_VAD_FLOATS, WORDS = FALLOWCART_FILTER_WORDS, LONGEST = 1025, ROOM = 70 };
+enum { NUMBERS = FALLOWCART_VAD_NUMBERS, FLOATS = FALLOWCART_VAD_FLOATS, WORDS = FALLOWCART_FILTER_WORDS, LONGEST = FALLOWCART_LONGEST_BLOCK + 1, FRAME = FALLOWCART_LONGEST_FRAME + 1, ROOM = 10 * FALLOWCART_ROW_FIELDS };
 
 static uint64_t *numbers, *rows;
 static float *floats, *samples, *output, *window;
@@ -60,7 +60,7 @@ static void lend(void) {
     rows = guarded(8 * ROOM);
     samples = guarded(4 * LONGEST);
     output = guarded(4 * LONGEST);
-    window = guarded(4 * 2049);
+    window = guarded(4 * FRAME);
     words = guarded(4 * WORDS);
 }
 
@@ -79,12 +79,14 @@ static uint64_t read_value(uint64_t answer) {
 static void seen(uint64_t reported) {
     if (!run.sound) return;
     for (uint64_t i = 0; i < reported; i++) {
-        uint64_t *row = rows + 7 * i;
-        MUST(run.end <= row[0] && run.undecided <= row[0] && row[0] < row[1] && row[1] <= numbers[13]);
-        MUST(row[4] <= 1024 * row[5] && 0 < row[5]);
-        run.end = row[1];
+        struct fallowcart_row row;
+        memcpy(&row, rows + i * FALLOWCART_ROW_FIELDS, sizeof row);
+        MUST(run.end <= row.start_sample && run.undecided <= row.start_sample && row.start_sample < row.end_sample);
+        MUST(row.end_sample <= numbers[FALLOWCART_VAD_PROCESSED_SAMPLES]);
+        MUST(row.score_total <= 1024 * row.loud_frames && 0 < row.loud_frames);
+        run.end = row.end_sample;
         run.rows++;
-        run.talk += row[1] - row[0];
+        run.talk += row.end_sample - row.start_sample;
     }
     uint64_t undecided = read_value(fallowcart_vad_undecided_from(numbers, NUMBERS, floats, FLOATS));
     uint64_t open = read_value(fallowcart_vad_active_segment_start_sample(numbers, NUMBERS, floats, FLOATS));
@@ -92,7 +94,8 @@ static void seen(uint64_t reported) {
     run.undecided = undecided;
     MUST(read_value(fallowcart_vad_rows_reported(numbers, NUMBERS, floats, FLOATS)) == run.rows);
     MUST(read_value(fallowcart_vad_talk_samples(numbers, NUMBERS, floats, FLOATS)) == run.talk);
-    MUST(numbers[14] || open || numbers[13] - undecided < numbers[7] + numbers[10]);
+    uint64_t trails = numbers[FALLOWCART_VAD_PROCESSED_SAMPLES] - undecided;
+    MUST(numbers[FALLOWCART_VAD_WARMING] || open || trails < numbers[FALLOWCART_VAD_FRAME_LENGTH] + numbers[FALLOWCART_VAD_PADDING_SAMPLES]);
 }
 
 static void begin(bool accepted) {
@@ -126,22 +129,23 @@ static void open_detector(void) {
     if (wild == 245) start = bytes(8);
     size_t frame = (size_t)fallowcart_frame_length(rate, duration);
     if (wild == 244) frame++;
-    if (frame > 2049) frame = 2049;
-    for (size_t i = 0; i < frame; i++) window[2049 - frame + i] = (float)(i & 7) / 8.0f;
-    if (wild == 243 && frame) window[2049 - frame] = raw_float();
+    if (frame > FRAME) frame = FRAME;
+    for (size_t i = 0; i < frame; i++) window[FRAME - frame + i] = (float)(i & 7) / 8.0f;
+    if (wild == 243 && frame) window[FRAME - frame] = raw_float();
     uint64_t answer = fallowcart_vad_open(rate, duration, overlap, wild & 1, emphasis, activation, release, gate, smoothing, least_energy, hangover, padding,
-                                          least, start, window + 2049 - frame, frame, rise, numbers, NUMBERS, floats, FLOATS);
+                                          least, start, window + FRAME - frame, frame, rise, numbers, NUMBERS, floats, FLOATS);
     if (answer != 0) {
-        MUST(answer <= 14);
-        for (int i = 0; i < NUMBERS; i++) MUST(numbers[i] == 0);
+        MUST(answer <= FALLOWCART_REFUSED_WINDOW);
+        MUST(numbers[FALLOWCART_VAD_LAYOUT] == FALLOWCART_VAD_LAYOUT_NAME);
+        for (int i = FALLOWCART_VAD_LAYOUT + 1; i < NUMBERS; i++) MUST(numbers[i] == 0);
         for (int i = 0; i < FLOATS; i++) MUST(floats[i] == 0.0f);
-        MUST(fallowcart_vad_flush(numbers, NUMBERS, floats, FLOATS, rows, 0) == 19);
+        MUST(fallowcart_vad_flush(numbers, NUMBERS, floats, FLOATS, rows, 0) == FALLOWCART_REFUSED_STATE);
     }
     begin(answer == 0);
 }
 
 static size_t block(void) {
-    size_t n = bytes(2) % 1026;
+    size_t n = bytes(2) % (LONGEST + 1);
     uint8_t kind = byte();
     float level = 1.0f / (float)(1u << (byte() & 31));
     uint32_t noise = kind;
@@ -164,17 +168,18 @@ static void call(bool finish) {
     uint64_t answer = finish ? fallowcart_vad_flush(numbers, NUMBERS, floats, FLOATS, lent, room)
                              : fallowcart_vad_detect(numbers, NUMBERS, floats, FLOATS, samples + LONGEST - n, n, lent, room);
     unsigned number = fallowcart_refusal(answer);
-    MUST(number == 0 || (15 <= number && number <= 19));
-    MUST(!run.sound || number != 19);
+    MUST(number == 0 || (FALLOWCART_REFUSED_BLOCK <= number && number <= FALLOWCART_REFUSED_STATE));
+    MUST(!run.sound || number != FALLOWCART_REFUSED_STATE);
+    MUST(number == FALLOWCART_REFUSED_STATE || kept_numbers[FALLOWCART_VAD_LAYOUT] == FALLOWCART_VAD_LAYOUT_NAME);
     if (number) {
         MUST(memcmp(kept_numbers, numbers, sizeof kept_numbers) == 0 && memcmp(kept_floats, floats, sizeof kept_floats) == 0);
         MUST(memcmp(kept_rows, rows, sizeof kept_rows) == 0);
         seen(0);
         return;
     }
-    MUST(numbers[FALLOWCART_ROWS] * 7 <= room && numbers[FALLOWCART_FRAMES] == numbers[FALLOWCART_LOUD] + numbers[FALLOWCART_QUIET]);
+    MUST(numbers[FALLOWCART_VAD_ROWS] * FALLOWCART_ROW_FIELDS <= room && numbers[FALLOWCART_VAD_FRAMES] == numbers[FALLOWCART_VAD_LOUD] + numbers[FALLOWCART_VAD_QUIET]);
     memmove(rows, lent, 8 * room);
-    seen(numbers[FALLOWCART_ROWS]);
+    seen(numbers[FALLOWCART_VAD_ROWS]);
 }
 
 static void filter(void) {
@@ -191,7 +196,10 @@ static void filter(void) {
     size_t n = block();
     uint64_t answer = fallowcart_filter_process(words, WORDS, samples + LONGEST - n, n, op >> 3 & 1, op >> 4 & 1, output + LONGEST - n, n);
     if (answer) MUST(memcmp(kept, words, sizeof kept) == 0);
-    if (fallowcart_filter_bias(words, WORDS) == 27) MUST(answer == 27 && fallowcart_filter_reset(words, WORDS) == 27);
+    if (fallowcart_filter_bias(words, WORDS) == FALLOWCART_REFUSED_FILTER_STATE) {
+        MUST(answer == FALLOWCART_REFUSED_FILTER_STATE);
+        MUST(fallowcart_filter_reset(words, WORDS) == FALLOWCART_REFUSED_FILTER_STATE);
+    }
 }
 
 int LLVMFuzzerTestOneInput(const uint8_t *data, size_t size);
@@ -223,8 +231,8 @@ int LLVMFuzzerTestOneInput(const uint8_t *data, size_t size) {
             break;
         case 6: {
             size_t short_numbers = byte() % NUMBERS, short_floats = bytes(2) % FLOATS;
-            MUST(fallowcart_vad_flush(numbers + NUMBERS - short_numbers, short_numbers, floats, FLOATS, rows, ROOM) == 19);
-            MUST(fallowcart_vad_noise_floor(numbers, NUMBERS, floats + FLOATS - short_floats, short_floats) == 19);
+            MUST(fallowcart_vad_flush(numbers + NUMBERS - short_numbers, short_numbers, floats, FLOATS, rows, ROOM) == FALLOWCART_REFUSED_STATE);
+            MUST(fallowcart_vad_noise_floor(numbers, NUMBERS, floats + FLOATS - short_floats, short_floats) == FALLOWCART_REFUSED_STATE);
             break;
         }
         case 7:

@@ -6,8 +6,8 @@
  *   between calls, and may be called from any thread. A pointer must be good for its length, aligned as C aligns its type and, with a length of 0 too,
  *   not null; memory lent to one call must not overlap; a bool is 0 or 1.
  * - A state lives in memory of the caller's, as numbers that are documented below. It may be stored, moved and gone on with after a restart, on a
- *   machine of the same byte order. A state that is malformed is refused, and a refused call writes nothing. The exceptions: a refused opening leaves
- *   zeros, and refusal 26 leaves results in the output.
+ *   machine of the same byte order. A state that is malformed is refused, and a refused call writes nothing. The exceptions: a refused opening leaves an
+ *   all-zero state, and refusal 26 leaves results in the output.
  * - Samples are f32, and full scale is 1: the usual settings below assume it. Positions are counted in samples from the stream's start, times are in
  *   nanoseconds. An energy is a root mean square, of a frame's samples after pre-emphasis and windowing.
  * - A call's arrays stand on the stack: give the thread that calls 256 KiB of it.
@@ -21,7 +21,7 @@
  *     if (fallowcart_refusal(answer) != 0)
  *         complain(fallowcart_refusal(answer), fallowcart_carried(answer));
  *     else
- *         for (uint64_t i = 0; i < vad.numbers[FALLOWCART_ROWS]; i++) {
+ *         for (uint64_t i = 0; i < vad.numbers[FALLOWCART_VAD_ROWS]; i++) {
  *             struct fallowcart_row row;
  *             memcpy(&row, rows + i * FALLOWCART_ROW_FIELDS, sizeof row);
  *             cut(row.start_sample, row.end_sample);
@@ -45,77 +45,116 @@ static inline unsigned fallowcart_refusal(uint64_t answer) { return (unsigned)(a
 static inline uint64_t fallowcart_carried(uint64_t answer) { return answer >> 8; }
 
 /*
- * The refusals:
- *    1  the rate is not from 8,000 to 48,000 Hz
- *    2  the frame's duration is not from 1 to 1,000,000,000 ns
- *    3  frame_overlap is not in [0, 1)
- *    4  pre_emphasis is present and not in [0, 1)
- *    5  release_ratio is NaN or below 1
- *    6  activation_ratio is not finite, or below release_ratio
- *    7  min_speech_energy is not finite, or negative
- *    8  noise_smoothing is not in [0, 1)
- *    9  energy_floor is not finite, or not positive
- *   10  min_speech_frames is 0
- *   11  a frame has more than 2,048 samples
- *   12  the warm-up has more than 300 frames
- *   13  speech_padding is above 1 s, hangover_frames or min_speech_frames above 10,000, or the stream starts at 2^63 ns or later
- *   14  the window's length is not the frame's, an entry of it is not in [0, 1], or the rise weight is not in [0.5, 1]
- *   15  the block is longer than 1,024 samples
- *   16  a sample is not finite or its magnitude is above 65,536; carries its place in the block
- *   17  more than 2^40 samples would be received
- *   18  this call reports more rows than fit; carries the number of rows needed
- *   19  the detector's state is malformed, or its memory is too short
- *   20  the filter's rate is not from 8,000 to 48,000 Hz
- *   21  the cutoff is not finite, or below 20 Hz
- *   22  the cutoff is not below half the rate
- *   23  dc_bias_alpha is not in (0, 1)
- *   24  a coefficient of a stage in use is NaN or outside (b0, b2 in [0, 1], b1 in [-2, 0], a1 in [-2, 2], a2 in [-1, 1]), or there are fewer than ten
- *   25  the output is shorter than the block
- *   26  a result of the filter is not finite; carries the sample's place. The output then holds the results before it and zeros from there to the
- *       block's length; the filter's state is as it was
- *   27  the filter's state is malformed, or its memory is too short
+ * The refusals, which docs/REFUSALS.md lists too. 19 and 27 are given too where the memory is too short for a state. 24 is asked of the stages in use, where
+ * b0 and b2 are in [0, 1], b1 in [-2, 0], a1 in [-2, 2] and a2 in [-1, 1]. After 26 the output holds the results before the place, and zeros from there to
+ * the block's length; the filter's state is as it was.
  */
+enum {
+    FALLOWCART_REFUSED_RATE = 1, /* the sample rate is not from 8,000 to 48,000 Hz */
+    FALLOWCART_REFUSED_FRAME_DURATION = 2, /* the frame duration is not from 1 ns to 1 s */
+    FALLOWCART_REFUSED_FRAME_OVERLAP = 3, /* the frame overlap is not in [0, 1) */
+    FALLOWCART_REFUSED_PRE_EMPHASIS = 4, /* the pre-emphasis is not in [0, 1) */
+    FALLOWCART_REFUSED_RELEASE_RATIO = 5, /* the release ratio is NaN, or is below 1 */
+    FALLOWCART_REFUSED_ACTIVATION_RATIO = 6, /* the activation ratio is not finite, or is below the release ratio */
+    FALLOWCART_REFUSED_MIN_SPEECH_ENERGY = 7, /* the least energy of speech is not finite, or is negative */
+    FALLOWCART_REFUSED_NOISE_SMOOTHING = 8, /* the smoothing of the noise floor is not in [0, 1) */
+    FALLOWCART_REFUSED_ENERGY_FLOOR = 9, /* the energy floor is not finite, or is not above 0 */
+    FALLOWCART_REFUSED_MIN_SPEECH_FRAMES = 10, /* the least number of speech frames is 0 */
+    FALLOWCART_REFUSED_FRAME_LENGTH = 11, /* a frame has more than 2,048 samples */
+    FALLOWCART_REFUSED_WARMUP = 12, /* the warm-up has more than 300 frames */
+    FALLOWCART_REFUSED_LIMITS = 13, /* the padding is above 1 s, the hangover or the least number of speech frames above 10,000, or the stream starts at 2^63 ns or later */
+    FALLOWCART_REFUSED_WINDOW = 14, /* the window has not a frame's length, an entry of it is not in [0, 1], or the rise weight is not in [0.5, 1] */
+    FALLOWCART_REFUSED_BLOCK = 15, /* the block is longer than 1,024 samples */
+    FALLOWCART_REFUSED_SAMPLE = 16, /* a sample is not finite, or its magnitude is above 65,536; carries the sample's place in the block */
+    FALLOWCART_REFUSED_RECEIVED = 17, /* the stream would be longer than 2^40 samples */
+    FALLOWCART_REFUSED_ROWS = 18, /* the call reports more rows than fit; carries the number of rows needed */
+    FALLOWCART_REFUSED_STATE = 19, /* the detector's state is malformed */
+    FALLOWCART_REFUSED_FILTER_RATE = 20, /* the sample rate is not from 8,000 to 48,000 Hz */
+    FALLOWCART_REFUSED_FILTER_CUTOFF = 21, /* the high-pass cutoff is not finite, or is below 20 Hz */
+    FALLOWCART_REFUSED_FILTER_HALF_RATE = 22, /* the high-pass cutoff is not below half the sample rate */
+    FALLOWCART_REFUSED_FILTER_ALPHA = 23, /* the smoothing of the DC bias is not in (0, 1) */
+    FALLOWCART_REFUSED_FILTER_COEFFICIENT = 24, /* a filter coefficient is NaN or outside its range */
+    FALLOWCART_REFUSED_FILTER_OUTPUT = 25, /* the output is shorter than the block */
+    FALLOWCART_REFUSED_FILTER_OVERFLOW = 26, /* the filter overflows; carries the sample's place in the block */
+    FALLOWCART_REFUSED_FILTER_STATE = 27, /* the filter's state is malformed */
+};
 
 /* ---- the detector */
 
-/*
- * A detector's state: 17,860 bytes, numbers and floats, and 4 of padding at the end of the struct. Zeros are no state: open one.
- *
- * numbers
- *    0  rate                     10  padding in samples           20  the open segment's start
- *    1  frame's duration         11  carry's length               21  .. end of its last loud frame
- *    2  pre-emphasis present     12  carry's start                22  .. score total
- *    3  hangover_frames          13  samples received             23  .. loud frames
- *    4  speech_padding           14  warming up                   24  .. quiet frames since the last loud one
- *    5  min_speech_frames        15  frames held                  25  frames judged by the latest call that was not refused
- *    6  stream_start_time        16  last segment end             26  .. loud frames among them
- *    7  frame's length           17  rows reported                27  .. quiet frames
- *    8  hop's length             18  talk samples                 28  .. rows that it reported
- *    9  warm-up frames           19  a segment is open
- * 1, 4 and 6 are in nanoseconds. 2, 14 and 19 are 0 or 1. Where no segment is open, the library writes zeros to 20 .. 24 and to the float 4406, and does not
- * look at them. It never looks at 25 .. 28, and an opening or a reset makes them 0.
- *
- * floats
- *       0 to 2047  the window, a frame long; past the used part of an array the library writes zeros and looks at nothing
- *    2048 to 4095  the carry: pre-emphasized values that no complete frame has used up
- *    4096 to 4395  the energies of the frames that the warm-up holds
- *    4396  frame_overlap         4400  min_speech_energy          4404  the last sample
- *    4397  pre_emphasis          4401  noise_smoothing            4405  the noise floor
- *    4398  activation_ratio      4402  energy_floor               4406  the open segment's energy total, or 0
- *    4399  release_ratio         4403  the rise weight
- */
-#define FALLOWCART_VAD_NUMBERS 29
-#define FALLOWCART_VAD_FLOATS 4407
+/* The most samples of a frame and of a block, and the most frames of a warm-up. */
+enum { FALLOWCART_LONGEST_FRAME = 2048, FALLOWCART_LONGEST_BLOCK = 1024, FALLOWCART_LONGEST_WARMUP = 300 };
 
-/* What the latest call counted, in the state's numbers. */
-enum { FALLOWCART_FRAMES = 25, FALLOWCART_LOUD = 26, FALLOWCART_QUIET = 27, FALLOWCART_ROWS = 28 };
+/*
+ * A detector's state: 17,868 bytes, numbers and floats, and 4 of padding at the end of the struct. Zeros are no state: open one.
+ *
+ * Its first number is the name of the layout. Every change of the layout changes it, so that a state that another one stored is refused by 19 and never misread.
+ */
+#define FALLOWCART_VAD_LAYOUT_NAME UINT64_C(0x46414C4C4F570001)
+
+/*
+ * Its numbers, by their places. Durations and times are in nanoseconds, a flag is 0 or 1. Where no segment is open, the library writes zeros to what is said
+ * of one, and does not look there. It never looks at what a call counted, and an opening or a reset makes that 0.
+ */
+enum {
+    FALLOWCART_VAD_LAYOUT, /* the name of the layout */
+    FALLOWCART_VAD_FRAMES, /* what the latest call that was not refused counted: the frames that it judged */
+    FALLOWCART_VAD_LOUD,
+    FALLOWCART_VAD_QUIET,
+    FALLOWCART_VAD_ROWS, /* the rows that it reported */
+    FALLOWCART_VAD_SAMPLE_RATE,
+    FALLOWCART_VAD_FRAME_DURATION,
+    FALLOWCART_VAD_HAS_PRE_EMPHASIS, /* a flag */
+    FALLOWCART_VAD_HANGOVER_FRAMES,
+    FALLOWCART_VAD_SPEECH_PADDING,
+    FALLOWCART_VAD_MIN_SPEECH_FRAMES,
+    FALLOWCART_VAD_STREAM_START_TIME,
+    FALLOWCART_VAD_FRAME_LENGTH, /* samples of a frame */
+    FALLOWCART_VAD_HOP_LENGTH, /* samples from one frame's start to the next one's */
+    FALLOWCART_VAD_WARMUP_FRAMES,
+    FALLOWCART_VAD_PADDING_SAMPLES,
+    FALLOWCART_VAD_CARRY_LEN,
+    FALLOWCART_VAD_CARRY_START,
+    FALLOWCART_VAD_PROCESSED_SAMPLES, /* samples received */
+    FALLOWCART_VAD_WARMING, /* a flag */
+    FALLOWCART_VAD_HELD, /* frames that the warm-up holds */
+    FALLOWCART_VAD_LAST_SEGMENT_END,
+    FALLOWCART_VAD_ROWS_REPORTED,
+    FALLOWCART_VAD_TALK_SAMPLES,
+    FALLOWCART_VAD_IS_OPEN, /* a flag; what follows is of the open segment */
+    FALLOWCART_VAD_START_SAMPLE,
+    FALLOWCART_VAD_LAST_END_SAMPLE, /* the end of its last loud frame */
+    FALLOWCART_VAD_SCORE_TOTAL,
+    FALLOWCART_VAD_LOUD_FRAMES,
+    FALLOWCART_VAD_SILENCE_RUN, /* quiet frames since its last loud one */
+    FALLOWCART_VAD_NUMBERS /* how many there are */
+};
+
+/* Its floats, by their places. Past the used part of an array the library writes zeros and looks at nothing. */
+enum {
+    FALLOWCART_VAD_FLOAT_WINDOW = 0, /* a frame long */
+    FALLOWCART_VAD_FLOAT_CARRY = FALLOWCART_VAD_FLOAT_WINDOW + FALLOWCART_LONGEST_FRAME, /* pre-emphasized values that no complete frame has used up */
+    FALLOWCART_VAD_FLOAT_WARMUP = FALLOWCART_VAD_FLOAT_CARRY + FALLOWCART_LONGEST_FRAME, /* the energies of the frames that the warm-up holds */
+    FALLOWCART_VAD_FLOAT_SINGLES = FALLOWCART_VAD_FLOAT_WARMUP + FALLOWCART_LONGEST_WARMUP, /* where the arrays end: each float from here on stands alone */
+    FALLOWCART_VAD_FLOAT_FRAME_OVERLAP = FALLOWCART_VAD_FLOAT_SINGLES,
+    FALLOWCART_VAD_FLOAT_PRE_EMPHASIS,
+    FALLOWCART_VAD_FLOAT_ACTIVATION_RATIO,
+    FALLOWCART_VAD_FLOAT_RELEASE_RATIO,
+    FALLOWCART_VAD_FLOAT_MIN_SPEECH_ENERGY,
+    FALLOWCART_VAD_FLOAT_NOISE_SMOOTHING,
+    FALLOWCART_VAD_FLOAT_ENERGY_FLOOR,
+    FALLOWCART_VAD_FLOAT_SPEECH_FLOOR_RISE, /* the rise weight */
+    FALLOWCART_VAD_FLOAT_PRE_EMPHASIS_PREV, /* the last sample */
+    FALLOWCART_VAD_FLOAT_NOISE_FLOOR,
+    FALLOWCART_VAD_FLOAT_ENERGY_SUM, /* 0 where no segment is open */
+    FALLOWCART_VAD_FLOATS /* how many there are */
+};
 
 struct fallowcart_vad {
     uint64_t numbers[FALLOWCART_VAD_NUMBERS];
     float floats[FALLOWCART_VAD_FLOATS];
 };
 
-/* A row is seven numbers. Its confidence, from 0 to 1, is score_total / (1024 * loud_frames). */
+/* A row. Its confidence, from 0 to 1, is score_total / (1024 * loud_frames). */
 struct fallowcart_row {
     uint64_t start_sample;
     uint64_t end_sample;
@@ -125,7 +164,7 @@ struct fallowcart_row {
     uint64_t loud_frames;
     uint64_t mean_energy; /* the f32's bits */
 };
-#define FALLOWCART_ROW_FIELDS 7
+enum { FALLOWCART_ROW_FIELDS = 7 };
 
 /*
  * The settings, and what is usual:
@@ -145,8 +184,8 @@ struct fallowcart_row {
  *   stream_start_time   0           when the first sample is
  *
  * Opens a detector: 19 where the memory is too short, which is then left as it is; else 0, or the first of refusals 1 to 14, which leaves an all-zero
- * state. The window is a Hann window a frame long, 0.5 - 0.5 * cos(2 * pi * n / (length - 1)), and the rise weight exp(-hop / (5 * rate)), both worked out
- * by the caller; fallowcart_frame_length and fallowcart_hop_length give the lengths.
+ * state: the layout's name and zeros behind it. The window is a Hann window a frame long, 0.5 - 0.5 * cos(2 * pi * n / (length - 1)), and the rise weight
+ * exp(-hop / (5 * rate)), both worked out by the caller; fallowcart_frame_length and fallowcart_hop_length give the lengths.
  */
 uint64_t fallowcart_vad_open(
     uint32_t sample_rate,
@@ -235,13 +274,33 @@ uint64_t fallowcart_time_of_sample(uint64_t stream_start_time, uint32_t sample_r
 
 /* ---- the filter */
 
-/*
- * A filter's state, 25 words; those of floats are their bits.
- *    0 cutoff, 1 rate, 2 dc_bias_alpha, 3 DC removal on, 4 high-pass on, 5 order (0 second, 1 fourth)
- *    6 to 14 the first stage, 15 to 23 the second: b0 b1 b2 a1 a2, then x1 x2 y1 y2
- *   24 the bias
- */
-#define FALLOWCART_FILTER_WORDS 25
+/* A stage of the filter, word by word: its coefficients, then what it remembers. */
+enum {
+    FALLOWCART_STAGE_B0,
+    FALLOWCART_STAGE_B1,
+    FALLOWCART_STAGE_B2,
+    FALLOWCART_STAGE_A1,
+    FALLOWCART_STAGE_A2,
+    FALLOWCART_STAGE_X1,
+    FALLOWCART_STAGE_X2,
+    FALLOWCART_STAGE_Y1,
+    FALLOWCART_STAGE_Y2,
+    FALLOWCART_STAGE_WORDS /* how many there are */
+};
+
+/* A filter's state, word by word; those of floats are their bits. */
+enum {
+    FALLOWCART_FILTER_HIGHPASS_CUTOFF_HZ,
+    FALLOWCART_FILTER_SAMPLE_RATE_HZ,
+    FALLOWCART_FILTER_DC_BIAS_ALPHA,
+    FALLOWCART_FILTER_ENABLE_DC_REMOVAL, /* a flag */
+    FALLOWCART_FILTER_ENABLE_HIGHPASS, /* a flag */
+    FALLOWCART_FILTER_FOURTH_ORDER, /* a flag */
+    FALLOWCART_FILTER_FIRST_STAGE,
+    FALLOWCART_FILTER_SECOND_STAGE = FALLOWCART_FILTER_FIRST_STAGE + FALLOWCART_STAGE_WORDS,
+    FALLOWCART_FILTER_BIAS = FALLOWCART_FILTER_SECOND_STAGE + FALLOWCART_STAGE_WORDS,
+    FALLOWCART_FILTER_WORDS /* how many there are */
+};
 
 /*
  * Opens a filter: 27 where the memory is too short, which is then left as it is; else 24 where there are fewer than ten coefficients, 0, or the first of

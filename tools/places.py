@@ -10,6 +10,8 @@ import pathlib
 import re
 import sys
 
+ROOT = pathlib.Path(__file__).parent.parent
+
 
 def read(path):
     """The records of the places, each with its fields, and the needs with the place that they start from."""
@@ -36,13 +38,18 @@ def read(path):
     return records, needs
 
 
+def goals(root, crate, function):
+    """The places and the needs of a function, or None where it has no goals."""
+    found = [path for path in (root / "target" / "goals" / crate).glob("**/Lts.antt") if path.parent.name == function and "·proofs" in str(path)]
+    return read(found[0]) if found else None
+
+
 def main():
     crate, function, *wanted = sys.argv[1:]
-    goals = pathlib.Path(__file__).parent.parent / "target" / "goals" / crate
-    paths = [p for p in goals.glob("**/Lts.antt") if p.parent.name == function and "·proofs" in str(p)]
-    if not paths:
+    known = goals(ROOT, crate, function)
+    if not known:
         sys.exit(f"nothing for {function}: run `rt goals {crate}` first")
-    records, needs = read(paths[0])
+    records, needs = known
     for need, place in needs.items():
         if wanted and need != f"Need-{wanted[0]}":
             continue
@@ -54,4 +61,5 @@ def main():
             place, path = fields.get("before"), path + " .before"
 
 
-main()
+if __name__ == "__main__":
+    main()

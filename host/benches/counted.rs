@@ -1,22 +1,23 @@
 //! One side's detector or filter over the recording of examples/, for `tools/instructions` to count: `counted detect port 160 2` hears it twice in blocks of
 //! 160 and prints how many samples one round has. Blocks of 0 are calls without a sample; then a round is a thousand calls, and that is printed.
 
-#[path = "common/breakfast.rs"]
+#[path = "../tests/common/breakfast.rs"]
 mod breakfast;
-#[path = "../tests/common/detector_for_original.rs"]
-mod detector_for_original;
 #[path = "../tests/common/for_original.rs"]
-mod filter_for_original;
+mod for_original;
 
 use std::hint::black_box;
 
 use fallowcart::{Detector, Filter, PreprocessingConfig, VadConfig};
+use for_original::ForOriginal;
 use speech_prep::preprocessing::DcHighPassFilter;
 
 const CALLS: usize = 1_000;
 
 /// What a side does with a block.
-fn side(what: &str, side: &str) -> Box<dyn FnMut(&[f32])> {
+type Hear = Box<dyn FnMut(&[f32])>;
+
+fn side(what: &str, side: &str) -> Hear {
     let vad = VadConfig::default();
     let filter = PreprocessingConfig::default();
     match (what, side) {
@@ -27,7 +28,7 @@ fn side(what: &str, side: &str) -> Box<dyn FnMut(&[f32])> {
             })
         }
         ("detect", "original") => {
-            let config = detector_for_original::for_original(&vad);
+            let config = vad.for_original();
             let original = speech_prep::VadDetector::new(config).expect("accepted");
             Box::new(move |samples| {
                 black_box(original.detect(samples).expect("accepted"));
@@ -43,7 +44,7 @@ fn side(what: &str, side: &str) -> Box<dyn FnMut(&[f32])> {
             })
         }
         ("filter", "original") => {
-            let config = filter_for_original::for_original(filter);
+            let config = filter.for_original();
             let mut original = DcHighPassFilter::new(config).expect("accepted");
             Box::new(move |samples| {
                 black_box(original.process(samples, None).expect("accepted"));

@@ -3,17 +3,17 @@
 //! Both sides get the same blocks and keep their state from block to block. The port's figure holds the door's call and the checks of its state and of the
 //! block; the original's holds the lock and the vectors that it makes for each block. Rounds alternate between the two sides, and the median round counts.
 
-#[path = "common/breakfast.rs"]
+#[path = "../tests/common/breakfast.rs"]
 mod breakfast;
-#[path = "../tests/common/detector_for_original.rs"]
-mod detector_for_original;
+#[path = "../tests/common/for_original.rs"]
+mod for_original;
 
 use std::hint::black_box;
 use std::time::{Duration, Instant};
 
 use breakfast::breakfast;
-use detector_for_original::for_original;
 use fallowcart::{Detector, VadConfig};
+use for_original::ForOriginal;
 use speech_prep::VadDetector;
 
 const ROUNDS: usize = 41;
@@ -28,7 +28,7 @@ impl Sides {
     fn open(config: VadConfig) -> Sides {
         Sides {
             port: Detector::new(config).expect("accepted"),
-            original: VadDetector::new(for_original(&config)).expect("accepted"),
+            original: VadDetector::new(config.for_original()).expect("accepted"),
         }
     }
 

@@ -13,7 +13,7 @@ use std::hint::black_box;
 use std::time::{Duration, Instant};
 
 use fallowcart::{Filter, HighpassOrder, PreprocessingConfig};
-use for_original::for_original;
+use for_original::ForOriginal;
 use random::Random;
 use speech_prep::preprocessing as original;
 
@@ -40,7 +40,7 @@ fn compare(name: &str, config: PreprocessingConfig, sound: &[f32], block: usize)
     let mut port = Filter::new(config).expect("the settings are accepted");
     let mut output = vec![0.0; block];
     let mut judge =
-        original::DcHighPassFilter::new(for_original(config)).expect("the settings are accepted");
+        original::DcHighPassFilter::new(config.for_original()).expect("the settings are accepted");
 
     let (mut ports, mut originals) = (Vec::new(), Vec::new());
     // The first round only warms up.
@@ -79,7 +79,7 @@ fn head(what: &str) {
 fn calls(name: &str, config: PreprocessingConfig) {
     let mut port = Filter::new(config).expect("the settings are accepted");
     let mut judge =
-        original::DcHighPassFilter::new(for_original(config)).expect("the settings are accepted");
+        original::DcHighPassFilter::new(config.for_original()).expect("the settings are accepted");
     let each = |time: Duration| time.as_secs_f64() * 1e9 / CALLS as f64;
     let (mut ports, mut originals) = (Vec::new(), Vec::new());
     for _ in 0..ROUNDS {
@@ -103,7 +103,7 @@ fn growth(minutes: &[usize], config: PreprocessingConfig, sound: &[f32]) {
     let mut port = Filter::new(config).expect("the settings are accepted");
     let mut output = vec![0.0; 1_024];
     let mut judge =
-        original::DcHighPassFilter::new(for_original(config)).expect("the settings are accepted");
+        original::DcHighPassFilter::new(config.for_original()).expect("the settings are accepted");
     let (mut ports, mut originals, mut rounds) = (0.0, 0.0, 0.0);
     for &limit in minutes {
         while (rounds as usize) < limit * 60 * RATE as usize / SAMPLES {

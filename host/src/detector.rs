@@ -1,11 +1,9 @@
 //! The voice detector.
 
+use crate::layout::{self, ROW_FIELDS, float, number, row};
 use crate::raw;
 use crate::refusal::Refusal;
 use crate::settings::VadConfig;
-
-/// Numbers of a row.
-const ROW_FIELDS: usize = 7;
 
 /// Rows that a call is lent room for at first: more in one call are rare, and are asked for again.
 const ROWS_AT_FIRST: usize = 4;
@@ -28,24 +26,15 @@ pub struct SpeechChunk {
 }
 
 impl SpeechChunk {
-    fn from_fields(row: &[u64; ROW_FIELDS]) -> SpeechChunk {
-        let [
-            start_sample,
-            end_sample,
-            start_time,
-            end_time,
-            score_total,
-            loud_frames,
-            energy,
-        ] = *row;
+    fn from_fields(fields: &[u64; ROW_FIELDS]) -> SpeechChunk {
         SpeechChunk {
-            start_sample,
-            end_sample,
-            start_time,
-            end_time,
-            score_total,
-            loud_frames,
-            mean_energy: f32::from_bits(energy as u32),
+            start_sample: fields[row::START_SAMPLE],
+            end_sample: fields[row::END_SAMPLE],
+            start_time: fields[row::START_TIME],
+            end_time: fields[row::END_TIME],
+            score_total: fields[row::SCORE_TOTAL],
+            loud_frames: fields[row::LOUD_FRAMES],
+            mean_energy: f32::from_bits(fields[row::MEAN_ENERGY] as u32),
         }
     }
 
@@ -73,7 +62,7 @@ pub struct Detected {
     pub noise_floor: f32,
 }
 
-/// A detector's state as the library has it, to be stored: `include/fallowcart.h` says what each number is.
+/// A detector's state as the library has it, to be stored: [`layout`](crate::layout) says what stands where.
 #[repr(C)]
 #[derive(Debug, Clone, PartialEq)]
 pub struct DetectorState {
@@ -83,8 +72,8 @@ pub struct DetectorState {
 
 impl DetectorState {
     /// How many numbers and floats a state has.
-    pub const NUMBERS: usize = 29;
-    pub const FLOATS: usize = 4407;
+    pub const NUMBERS: usize = layout::NUMBERS;
+    pub const FLOATS: usize = layout::FLOATS;
     /// How many bytes they are; a C struct of them has four more at its end.
     pub const BYTES: usize = 8 * Self::NUMBERS + 4 * Self::FLOATS;
 
@@ -176,7 +165,7 @@ impl Detector {
     ) -> Result<Detector, Refusal> {
         let mut state = DetectorState::zeros();
         Refusal::check(raw::vad_open(
-            &config,
+            &config.into(),
             window,
             speech_floor_rise,
             &mut state.numbers,
@@ -229,15 +218,19 @@ impl Detector {
         answer?;
         let numbers = &self.state.numbers;
         let stats = VadStats {
-            frames_processed: numbers[25],
-            speech_frames: numbers[26],
-            silence_frames: numbers[27],
+            frames_processed: numbers[number::FRAMES],
+            speech_frames: numbers[number::LOUD],
+            silence_frames: numbers[number::QUIET],
         };
-        let written = rows.as_chunks().0.iter().take(numbers[28] as usize);
+        let written = rows
+            .as_chunks()
+            .0
+            .iter()
+            .take(numbers[number::ROWS] as usize);
         Ok(Detected {
             segments: written.map(SpeechChunk::from_fields).collect(),
             stats,
-            noise_floor: self.state.floats[4405],
+            noise_floor: self.state.floats[float::NOISE_FLOOR],
         })
     }
 
@@ -313,7 +306,7 @@ impl Detector {
     ///
     /// # Errors
     ///
-    /// Refusal 19 where the state is malformed. Not every state that is damaged is.
+    /// Refusal 19 where the state is malformed, or where another [layout](crate::layout::LAYOUT) stored it. Not every state that is damaged is malformed.
     pub fn from_state(state: &DetectorState) -> Result<Detector, Refusal> {
         Refusal::check(raw::vad_undecided_from(&state.numbers, &state.floats))?;
         Ok(Detector {

@@ -154,7 +154,7 @@ unsafe extern "C" {
         floats_len: usize,
     ) -> u64;
 
-    /// Opens a filter: the first of refusals 27 (the state has fewer than 25 words) and 20 to 24 that is met, or 0.
+    /// Opens a filter: the first of refusals 27 (the state has too few words) and 20 to 24 that is met, or 0.
     pub fn fallowcart_filter_open(
         highpass_cutoff_hz: f32,
         sample_rate_hz: u32,

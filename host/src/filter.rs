@@ -1,5 +1,6 @@
 //! The filter: removal of a DC bias, then a Butterworth high-pass.
 
+use crate::layout;
 use crate::raw;
 use crate::refusal::Refusal;
 
@@ -48,6 +49,20 @@ impl PreprocessingConfig {
         match self.highpass_order {
             HighpassOrder::SecondOrder => [of(std::f32::consts::FRAC_1_SQRT_2), [0.0; 5]],
             HighpassOrder::FourthOrder => [of(0.541_196_1), of(1.306_563)],
+        }
+    }
+}
+
+/// The settings as the door takes them.
+impl From<PreprocessingConfig> for raw::FilterSettings {
+    fn from(config: PreprocessingConfig) -> raw::FilterSettings {
+        raw::FilterSettings {
+            highpass_cutoff_hz: config.highpass_cutoff_hz,
+            sample_rate_hz: config.sample_rate_hz,
+            dc_bias_alpha: config.dc_bias_alpha,
+            enable_dc_removal: config.enable_dc_removal,
+            enable_highpass: config.enable_highpass,
+            fourth_order: config.highpass_order == HighpassOrder::FourthOrder,
         }
     }
 }
@@ -111,7 +126,7 @@ pub struct Filter {
 
 impl Filter {
     /// How many words a state has.
-    pub const STATE_WORDS: usize = 25;
+    pub const STATE_WORDS: usize = layout::FILTER_WORDS;
 
     /// Opens a filter with [`PreprocessingConfig::coefficients`].
     ///
@@ -143,7 +158,7 @@ impl Filter {
     ) -> Result<Filter, Refusal> {
         let mut state = [0; Filter::STATE_WORDS];
         Refusal::check(raw::filter_open(
-            &config,
+            &config.into(),
             coefficients.as_flattened(),
             &mut state,
         ))?;
@@ -194,7 +209,7 @@ impl Filter {
     /// let filter = Filter::new(PreprocessingConfig::default()).unwrap();
     /// let stored = filter.state();
     /// assert_eq!(Filter::from_state(stored), Ok(filter));
-    /// assert_eq!(Filter::from_state([7; 25]).unwrap_err().number(), 27);
+    /// assert_eq!(Filter::from_state([7; Filter::STATE_WORDS]).unwrap_err().number(), 27);
     /// ```
     pub fn state(&self) -> [u32; Filter::STATE_WORDS] {
         self.state

@@ -6,8 +6,9 @@
 mod detector;
 mod door;
 mod filter;
+pub mod layout;
 pub mod raw;
-mod refusal;
+pub mod refusal;
 mod settings;
 
 pub use detector::{Detected, Detector, DetectorState, SpeechChunk, VadStats};

@@ -1,54 +1,75 @@
-//! The door's functions on slices and bare numbers, for hosts that keep the state themselves and for tests. Every length and every word is allowed.
+//! The door's functions on slices and bare numbers, for hosts that keep the state themselves and for tests. Every length and every word is allowed. The
+//! types for people, [`Detector`](crate::Detector), [`Filter`](crate::Filter) and their settings, stand above this module, which knows none of them.
 //!
 //! The answer of the detector's and the filter's functions is packed: the refusal's number, or 0, and 2^8 times what it carries.
 
 use crate::door;
-use crate::filter::{HighpassOrder, PreprocessingConfig};
-use crate::settings::{VadConfig, nanos};
 
 pub use crate::door::{
     fallowcart_frame_length as frame_length, fallowcart_hop_length as hop_length,
-    fallowcart_padding_samples as padding_samples, fallowcart_settings_refusal as settings_refusal,
-    fallowcart_time_of_sample as time_of_sample, fallowcart_warmup_frames as warmup_frames,
+    fallowcart_padding_samples as padding_samples, fallowcart_time_of_sample as time_of_sample,
+    fallowcart_warmup_frames as warmup_frames,
 };
 
-/// Opens a detector in memory for 29 numbers and 4,407 floats.
-pub fn vad_open(
-    config: &VadConfig,
-    window: &[f32],
-    speech_floor_rise: f32,
-    numbers: &mut [u64],
-    floats: &mut [f32],
-) -> u64 {
-    // SAFETY: each pointer comes with the length of its slice, and the three slices lie apart.
-    unsafe {
-        door::fallowcart_vad_open(
-            config.sample_rate,
-            nanos(config.frame_duration),
-            config.frame_overlap,
-            config.pre_emphasis.is_some(),
-            config.pre_emphasis.unwrap_or(0.0),
-            config.activation_ratio,
-            config.release_ratio,
-            config.min_speech_energy,
-            config.noise_smoothing,
-            config.energy_floor,
-            config.hangover_frames as u64,
-            nanos(config.speech_padding),
-            config.min_speech_frames as u64,
-            config.stream_start_time,
-            window.as_ptr(),
-            window.len(),
-            speech_floor_rise,
-            numbers.as_mut_ptr(),
-            numbers.len(),
-            floats.as_mut_ptr(),
-            floats.len(),
-        )
-    }
+/// The settings with the two functions that take them, so that they are written out once.
+macro_rules! settings {
+    ($($(#[$doc:meta])* $name:ident: $type:ty,)*) => {
+        /// The detector's settings as the door takes them. Durations and times are in nanoseconds.
+        #[derive(Debug, Clone, Copy, PartialEq)]
+        pub struct Settings {
+            $($(#[$doc])* pub $name: $type,)*
+        }
+
+        /// The first of refusals 1 to 13 that the settings meet, or 0.
+        pub fn settings_refusal(settings: &Settings) -> u32 {
+            door::fallowcart_settings_refusal($(settings.$name),*)
+        }
+
+        /// Opens a detector in memory for [`NUMBERS`](crate::layout::NUMBERS) numbers and [`FLOATS`](crate::layout::FLOATS) floats. Memory that is too short
+        /// is left as it is; in other memory a refused opening leaves an all-zero state, which is no detector's: the layout's name and zeros behind it.
+        pub fn vad_open(
+            settings: &Settings,
+            window: &[f32],
+            speech_floor_rise: f32,
+            numbers: &mut [u64],
+            floats: &mut [f32],
+        ) -> u64 {
+            // SAFETY: each pointer comes with the length of its slice, and the three slices lie apart.
+            unsafe {
+                door::fallowcart_vad_open(
+                    $(settings.$name,)*
+                    window.as_ptr(),
+                    window.len(),
+                    speech_floor_rise,
+                    numbers.as_mut_ptr(),
+                    numbers.len(),
+                    floats.as_mut_ptr(),
+                    floats.len(),
+                )
+            }
+        }
+    };
 }
 
-/// Hears a block. Rows are seven numbers each.
+settings! {
+    sample_rate: u32,
+    frame_duration: u64,
+    frame_overlap: f32,
+    has_pre_emphasis: bool,
+    /// Not looked at where there is none.
+    pre_emphasis: f32,
+    activation_ratio: f32,
+    release_ratio: f32,
+    min_speech_energy: f32,
+    noise_smoothing: f32,
+    energy_floor: f32,
+    hangover_frames: u64,
+    speech_padding: u64,
+    min_speech_frames: u64,
+    stream_start_time: u64,
+}
+
+/// Hears a block. Rows are [`ROW_FIELDS`](crate::layout::ROW_FIELDS) numbers each.
 pub fn vad_detect(
     numbers: &mut [u64],
     floats: &mut [f32],
@@ -125,17 +146,28 @@ readings! {
     vad_noise_floor => fallowcart_vad_noise_floor,
 }
 
-/// Opens a filter in a state of 25 words. The ten coefficients are b0, b1, b2, a1, a2 of the first stage, then those of the second.
-pub fn filter_open(config: &PreprocessingConfig, coefficients: &[f32], state: &mut [u32]) -> u64 {
+/// The filter's settings as the door takes them.
+#[derive(Debug, Clone, Copy, PartialEq)]
+pub struct FilterSettings {
+    pub highpass_cutoff_hz: f32,
+    pub sample_rate_hz: u32,
+    pub dc_bias_alpha: f32,
+    pub enable_dc_removal: bool,
+    pub enable_highpass: bool,
+    pub fourth_order: bool,
+}
+
+/// Opens a filter in a state of [`FILTER_WORDS`](crate::layout::FILTER_WORDS) words. The ten coefficients are b0, b1, b2, a1, a2 of the first stage, then those of the second.
+pub fn filter_open(settings: &FilterSettings, coefficients: &[f32], state: &mut [u32]) -> u64 {
     // SAFETY: each pointer comes with the length of its slice, and the two slices lie apart.
     unsafe {
         door::fallowcart_filter_open(
-            config.highpass_cutoff_hz,
-            config.sample_rate_hz,
-            config.dc_bias_alpha,
-            config.enable_dc_removal,
-            config.enable_highpass,
-            config.highpass_order == HighpassOrder::FourthOrder,
+            settings.highpass_cutoff_hz,
+            settings.sample_rate_hz,
+            settings.dc_bias_alpha,
+            settings.enable_dc_removal,
+            settings.enable_highpass,
+            settings.fourth_order,
             coefficients.as_ptr(),
             coefficients.len(),
             state.as_mut_ptr(),

@@ -2,7 +2,7 @@
 
 use std::time::Duration;
 
-use crate::door;
+use crate::raw;
 use crate::refusal::Refusal;
 
 /// Settings of the voice detector. The names and the defaults are the original's.
@@ -85,8 +85,30 @@ fn hann_window(length: usize) -> Vec<f32> {
 }
 
 /// Too long for the door's word is too long for the library, so the largest word stands for it.
-pub(crate) fn nanos(duration: Duration) -> u64 {
+fn nanos(duration: Duration) -> u64 {
     u64::try_from(duration.as_nanos()).unwrap_or(u64::MAX)
+}
+
+/// The settings as the door takes them.
+impl From<VadConfig> for raw::Settings {
+    fn from(config: VadConfig) -> raw::Settings {
+        raw::Settings {
+            sample_rate: config.sample_rate,
+            frame_duration: nanos(config.frame_duration),
+            frame_overlap: config.frame_overlap,
+            has_pre_emphasis: config.pre_emphasis.is_some(),
+            pre_emphasis: config.pre_emphasis.unwrap_or(0.0),
+            activation_ratio: config.activation_ratio,
+            release_ratio: config.release_ratio,
+            min_speech_energy: config.min_speech_energy,
+            noise_smoothing: config.noise_smoothing,
+            energy_floor: config.energy_floor,
+            hangover_frames: config.hangover_frames as u64,
+            speech_padding: nanos(config.speech_padding),
+            min_speech_frames: config.min_speech_frames as u64,
+            stream_start_time: config.stream_start_time,
+        }
+    }
 }
 
 /// Each number that follows from the settings is answered where the settings are accepted.
@@ -97,22 +119,7 @@ impl VadConfig {
     ///
     /// The first of refusals 1 to 13 that is met.
     pub fn validate(&self) -> Result<(), Refusal> {
-        let number = door::fallowcart_settings_refusal(
-            self.sample_rate,
-            nanos(self.frame_duration),
-            self.frame_overlap,
-            self.pre_emphasis.is_some(),
-            self.pre_emphasis.unwrap_or(0.0),
-            self.activation_ratio,
-            self.release_ratio,
-            self.min_speech_energy,
-            self.noise_smoothing,
-            self.energy_floor,
-            self.hangover_frames as u64,
-            nanos(self.speech_padding),
-            self.min_speech_frames as u64,
-            self.stream_start_time,
-        );
+        let number = raw::settings_refusal(&(*self).into());
         Refusal::check(u64::from(number)).map(|_| ())
     }
 
@@ -127,7 +134,7 @@ impl VadConfig {
     /// ```
     pub fn frame_length_samples(&self) -> Result<usize, Refusal> {
         self.validate()?;
-        let length = door::fallowcart_frame_length(self.sample_rate, nanos(self.frame_duration));
+        let length = raw::frame_length(self.sample_rate, nanos(self.frame_duration));
         Ok(length as usize)
     }
 
@@ -142,7 +149,7 @@ impl VadConfig {
     /// ```
     pub fn hop_length_samples(&self) -> Result<usize, Refusal> {
         let length = self.frame_length_samples()? as u64;
-        Ok(door::fallowcart_hop_length(length, self.frame_overlap) as usize)
+        Ok(raw::hop_length(length, self.frame_overlap) as usize)
     }
 
     /// Frames that are held back at the start to find the noise floor.
@@ -156,7 +163,7 @@ impl VadConfig {
     /// ```
     pub fn warmup_frames(&self) -> Result<usize, Refusal> {
         let hop = self.hop_length_samples()? as u64;
-        Ok(door::fallowcart_warmup_frames(hop, self.sample_rate) as usize)
+        Ok(raw::warmup_frames(hop, self.sample_rate) as usize)
     }
 
     /// Samples added before and after each segment.
@@ -170,8 +177,7 @@ impl VadConfig {
     /// ```
     pub fn padding_samples(&self) -> Result<usize, Refusal> {
         self.validate()?;
-        let samples =
-            door::fallowcart_padding_samples(nanos(self.speech_padding), self.sample_rate);
+        let samples = raw::padding_samples(nanos(self.speech_padding), self.sample_rate);
         Ok(samples as usize)
     }
 
@@ -212,8 +218,7 @@ impl VadConfig {
     /// ```
     pub fn time_of_sample(&self, sample: u64) -> Option<u64> {
         self.validate().ok()?;
-        let time =
-            || door::fallowcart_time_of_sample(self.stream_start_time, self.sample_rate, sample);
+        let time = || raw::time_of_sample(self.stream_start_time, self.sample_rate, sample);
         (sample <= 1 << 40).then(time)
     }
 }

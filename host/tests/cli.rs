@@ -1,26 +1,16 @@
 //! The command line as a person runs it: what it prints, what it refuses and with which words.
 
 use std::io::{BufRead, BufReader, Write};
-use std::path::{Path, PathBuf};
+use std::path::PathBuf;
 use std::process::{Command, Output, Stdio};
 
 use speech_prep::probe::Probe;
 
-fn root() -> PathBuf {
-    Path::new(env!("CARGO_MANIFEST_DIR")).join("..")
-}
+use crate::common::breakfast::breakfast;
+use crate::common::{program, root};
 
-/// On a processor other than x86-64 `tools/host` names an emulator.
 fn fallowcart() -> Command {
-    let program = env!("CARGO_BIN_EXE_fallowcart");
-    match std::env::var("CARGO_TARGET_X86_64_UNKNOWN_LINUX_GNU_RUNNER") {
-        Ok(emulator) if !emulator.is_empty() => {
-            let mut command = Command::new(emulator);
-            command.arg(program);
-            command
-        }
-        _ => Command::new(program),
-    }
+    program(env!("CARGO_BIN_EXE_fallowcart"))
 }
 
 fn segments(words: &[&str]) -> Output {
@@ -67,16 +57,6 @@ fn example() -> PathBuf {
     root().join("examples/breakfast.s16")
 }
 
-fn example_samples() -> Vec<f32> {
-    let bytes = std::fs::read(example()).expect("the example");
-    let (words, rest) = bytes.as_chunks();
-    assert!(rest.is_empty());
-    let samples = words
-        .iter()
-        .map(|word| f32::from(i16::from_le_bytes(*word)));
-    samples.map(|sample| sample / 32_768.0).collect()
-}
-
 fn file(name: &str, bytes: &[u8]) -> String {
     let path = PathBuf::from(env!("CARGO_TARGET_TMPDIR")).join(name);
     std::fs::write(&path, bytes).expect("a file");
@@ -115,7 +95,7 @@ fn the_example_prints_what_the_repository_shows() {
 fn the_example_s_rows_are_the_original_s() {
     let original = Probe::open(speech_prep::VadConfig::default()).expect("the original opens");
     let mut rows = Vec::new();
-    for block in example_samples().chunks(1024) {
+    for block in breakfast().chunks(1024) {
         rows.extend(original.detect(block).expect("heard").segments);
     }
     rows.extend(original.flush().expect("heard").segments);
@@ -148,7 +128,7 @@ fn standard_input_and_floats_give_the_same_table() {
         printed(&from_input(&["--tsv"], &bytes)),
         shown("breakfast.tsv")
     );
-    let bytes = floats(&example_samples());
+    let bytes = floats(&breakfast());
     assert_eq!(
         printed(&from_input(&["--tsv", "--format", "f32"], &bytes)),
         shown("breakfast.tsv")
@@ -390,7 +370,7 @@ fn input_that_cannot_be_used_is_said() {
         &format!("'{odd}' has 4097 {bytes} f32 samples of 4 bytes"),
     );
 
-    let mut samples = example_samples();
+    let mut samples = breakfast();
     samples[200_000] = f32::NAN;
     let spoilt = file("spoilt.f32", &floats(&samples));
     let message = "sample 200000, at 0:00:12.500 of the recording, is not finite, or its magnitude is above 65,536 (refusal 16)";
@@ -404,7 +384,7 @@ fn input_that_cannot_be_used_is_said() {
 /// What came before on standard input has been printed, in whole rows.
 #[test]
 fn a_stream_that_spoils_leaves_whole_rows() {
-    let mut samples = example_samples();
+    let mut samples = breakfast();
     samples[200_000] = 1e6;
     let output = from_input(&["--tsv", "--format", "f32"], &floats(&samples));
     let message = "fallowcart: sample 200000, at 0:00:12.500 of the recording, is not finite, or its magnitude is above 65,536 (refusal 16)\n";

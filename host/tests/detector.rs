@@ -1,128 +1,67 @@
 //! The compiled detector against the original's, call by call, through the C door; demand 3's sentences on the fly; states stored and brought back.
 //!
-//! The long run: `tools/host test --release --test detector -- --ignored --nocapture`.
+//! The long run: `tools/host test --release --test all -- --ignored --nocapture detector::`.
 
-#[path = "detector/cases.rs"]
-mod cases;
-#[path = "common/choose.rs"]
-mod choose;
-#[path = "detector/demand.rs"]
+pub mod cases;
 mod demand;
-#[path = "common/detector_for_original.rs"]
-mod detector_for_original;
-#[path = "common/long.rs"]
-mod long;
-#[path = "detector/memory.rs"]
-mod memory;
-#[path = "common/random.rs"]
-mod random;
+pub mod memory;
 
-use std::ops::AddAssign;
-
-use cases::{Cutting, LONGEST, Sound};
+use cases::{Cutting, Sound};
 use demand::Demand;
-use detector_for_original::for_original;
 use fallowcart::VadConfig;
-use long::long;
-use memory::{Memory, ROW, unpacked};
-use random::Random;
+use fallowcart::layout::{ROW_FIELDS, float, number, row};
+use memory::{Memory, unpacked};
 use speech_prep::AudioTimestamp;
 use speech_prep::probe::{Answer, Probe};
+
+use crate::common::LONGEST;
+use crate::common::for_original::ForOriginal;
+use crate::common::long::long;
+use crate::common::random::Random;
+use crate::common::tally::{Tally, counts};
 
 /// Segments of more loud frames are not held to the confidence: the original adds their scores up in f32.
 const CONFIDENT: u64 = 4_096;
 
-/// What the runs met.
-#[derive(Default, Debug, Clone, Copy)]
-struct Seen {
-    runs: u64,
-    samples: u64,
-    detects: u64,
-    flushes: u64,
-    resets: u64,
-    frames: u64,
-    loud: u64,
-    rows: u64,
-    /// Rows of too many loud frames to compare the confidence.
-    long_rows: u64,
-    /// The greatest difference of confidence, in millionths.
-    confidence: u64,
-    refused_13: u64,
-    refused_15: u64,
-    refused_16: u64,
-    refused_18: u64,
-    restored: u64,
-    /// Calls after which a segment was open.
-    open: u64,
-    warming: u64,
-    /// Pre-emphasized values that before rounding lie halfway between two floats, and those below the normal floats.
-    halfway: u64,
-    subnormal: u64,
-}
-
-impl AddAssign for Seen {
-    fn add_assign(&mut self, other: Seen) {
-        self.runs += other.runs;
-        self.samples += other.samples;
-        self.detects += other.detects;
-        self.flushes += other.flushes;
-        self.resets += other.resets;
-        self.frames += other.frames;
-        self.loud += other.loud;
-        self.rows += other.rows;
-        self.long_rows += other.long_rows;
-        self.confidence = self.confidence.max(other.confidence);
-        self.refused_13 += other.refused_13;
-        self.refused_15 += other.refused_15;
-        self.refused_16 += other.refused_16;
-        self.refused_18 += other.refused_18;
-        self.restored += other.restored;
-        self.open += other.open;
-        self.warming += other.warming;
-        self.halfway += other.halfway;
-        self.subnormal += other.subnormal;
+counts! {
+    /// What the runs met.
+    Met {
+        Samples: "samples",
+        Detects: "detects",
+        Flushes: "flushes",
+        Resets: "resets",
+        Runs: "settings",
+        Frames: "frames",
+        Loud: "loud frames",
+        Rows: "rows",
+        LongRows: "rows too long to compare the confidence",
+        Open: "calls after which a segment was open",
+        Warming: "calls in the warm-up",
+        Restored: "states stored and brought back",
+        Refused13: "calls refused by 13",
+        Refused15: "calls refused by 15",
+        Refused16: "calls refused by 16",
+        Refused18: "calls refused by 18",
+        /// Before rounding.
+        Halfway: "pre-emphasized values halfway between two floats",
+        Subnormal: "subnormal pre-emphasized values",
+    } greatest {
+        Confidence: "millionths between the confidences at most",
     }
 }
+
+type Seen = Tally<Met>;
 
 impl Seen {
-    fn line(&self) -> String {
-        format!(
-            "{} samples compared in {} detects, {} flushes and {} resets of {} settings: {} frames, {} of them loud, {} rows ({} too long to compare \
-             the confidence, which differs by at most {} millionths in the others); a segment was open after {} calls, {} calls were in the warm-up; {} \
-             states stored and brought back; {} calls refused (13: {}, 15: {}, 16: {}, 18: {}); {} pre-emphasized values lay halfway between two floats, {} \
-             were subnormal; 0 differences",
-            self.samples,
-            self.detects,
-            self.flushes,
-            self.resets,
-            self.runs,
-            self.frames,
-            self.loud,
-            self.rows,
-            self.long_rows,
-            self.confidence,
-            self.open,
-            self.warming,
-            self.restored,
-            self.refused_13 + self.refused_15 + self.refused_16 + self.refused_18,
-            self.refused_13,
-            self.refused_15,
-            self.refused_16,
-            self.refused_18,
-            self.halfway,
-            self.subnormal,
-        )
-    }
-
     /// Looks at a block's pre-emphasized values in f64.
     fn meet(&mut self, config: &VadConfig, block: &[f32]) {
         let coefficient = f64::from(config.pre_emphasis.unwrap_or(0.0));
         for pair in block.windows(2) {
             let value = f64::from(pair[1]) - coefficient * f64::from(pair[0]);
             if value.abs() >= f64::from(f32::MIN_POSITIVE) {
-                self.halfway += u64::from(value.to_bits() & 0x1fff_ffff == 0x1000_0000);
+                self.count(Met::Halfway, value.to_bits() & 0x1fff_ffff == 0x1000_0000);
             } else {
-                self.subnormal += u64::from(value != 0.0);
+                self.count(Met::Subnormal, value != 0.0);
             }
         }
     }
@@ -146,7 +85,7 @@ fn old(n: usize) -> u64 {
 
 impl Sides {
     fn open(config: VadConfig, restoring: bool) -> Sides {
-        let original = Probe::open(for_original(&config)).expect("the original accepts more");
+        let original = Probe::open(config.for_original()).expect("the original accepts more");
         let mut port = Memory::old();
         let window = config.window().expect("accepted");
         let rise = config.speech_floor_rise().expect("accepted");
@@ -169,7 +108,7 @@ impl Sides {
             let stored = self.port.stored();
             self.port = Memory::old();
             self.port.restore(&stored);
-            seen.restored += 1;
+            seen[Met::Restored] += 1;
         }
     }
 
@@ -206,7 +145,7 @@ impl Sides {
         self.restore(seen);
         // Room for as many rows as there may be, or for few.
         let room = if random.one_in(2) {
-            random.within(0, 3 * ROW as i32) as usize
+            random.within(0, 3 * ROW_FIELDS as i32) as usize
         } else {
             60
         };
@@ -221,13 +160,14 @@ impl Sides {
                     && self.rows.iter().enumerate().all(|(n, row)| *row == old(n))
             );
             assert!(
-                (room / ROW) < needed as usize,
+                (room / ROW_FIELDS) < needed as usize,
                 "{needed} rows in {room} numbers"
             );
             self.demand.seen(&self.port, &self.port.readings());
-            seen.refused_18 += 1;
+            seen[Met::Refused18] += 1;
             self.rows.clear();
-            let room = needed as usize * ROW + random.within(0, ROW as i32 - 1) as usize;
+            let room =
+                needed as usize * ROW_FIELDS + random.within(0, ROW_FIELDS as i32 - 1) as usize;
             self.rows.extend((0..room).map(old));
             refusal = unpacked(of_port(&mut self.port, &mut self.rows)).0;
         }
@@ -237,7 +177,11 @@ impl Sides {
             None => self.original.flush(),
         };
         if let Some(needed) = needed {
-            assert_eq!(self.port.counted()[3], needed, "18 carries the rows needed");
+            assert_eq!(
+                self.port.numbers[number::ROWS],
+                needed,
+                "18 carries the rows needed"
+            );
         }
         self.compare(
             &answer.expect("the original answers"),
@@ -267,7 +211,7 @@ impl Sides {
         let readings = port.readings();
         let floor = original.noise_floor.to_bits();
         assert_eq!(
-            [readings.floor, port.floats[4405].to_bits()],
+            [readings.floor, port.floats[float::NOISE_FLOOR].to_bits()],
             [floor; 2],
             "floor of {config:?}"
         );
@@ -278,16 +222,19 @@ impl Sides {
         let open = self.original.open_start().map(|start| start as u64);
         assert_eq!(readings.open, open, "{config:?}");
 
-        let (rows, rest) = self.rows.as_chunks::<ROW>();
+        let (rows, rest) = self.rows.as_chunks::<ROW_FIELDS>();
         let (rows, untouched) = rows.split_at(reported as usize);
-        let places = rows.len() * ROW;
+        let places = rows.len() * ROW_FIELDS;
         let after = untouched.as_flattened().iter().chain(rest).enumerate();
         assert!(
             after.into_iter().all(|(n, row)| *row == old(places + n)),
             "numbers past the rows stay"
         );
-        for (row, chunk) in rows.iter().zip(&original.segments) {
-            let [start, end, start_time, end_time, score, loud, energy] = *row;
+        for (fields, chunk) in rows.iter().zip(&original.segments) {
+            let [start, end] = [row::START_SAMPLE, row::END_SAMPLE].map(|n| fields[n]);
+            let [start_time, end_time] = [row::START_TIME, row::END_TIME].map(|n| fields[n]);
+            let [score, loud] = [row::SCORE_TOTAL, row::LOUD_FRAMES].map(|n| fields[n]);
+            let energy = fields[row::MEAN_ENERGY];
             let rate = u128::from(config.sample_rate);
             let time = |sample: u64| {
                 let nanos = (u128::from(sample) * 1_000_000_000 + rate / 2) / rate;
@@ -313,18 +260,18 @@ impl Sides {
                     "confidence {confidence}, {} of {config:?}",
                     chunk.confidence
                 );
-                seen.confidence = seen.confidence.max((apart * 1e6) as u64);
+                seen[Met::Confidence] = seen[Met::Confidence].max((apart * 1e6) as u64);
             } else {
-                seen.long_rows += 1;
+                seen[Met::LongRows] += 1;
             }
         }
         self.demand.call(port, &readings, block, rows);
         assert!(port.zeros_past(), "zeros past the used parts of the arrays");
-        seen.frames += frames;
-        seen.loud += loud;
-        seen.rows += reported;
-        seen.open += u64::from(open.is_some());
-        seen.warming += u64::from(port.warming());
+        seen[Met::Frames] += frames;
+        seen[Met::Loud] += loud;
+        seen[Met::Rows] += reported;
+        seen.count(Met::Open, open.is_some());
+        seen.count(Met::Warming, port.warming());
     }
 
     fn reset(&mut self, start: u64, seen: &mut Seen) {
@@ -334,21 +281,21 @@ impl Sides {
         self.config.stream_start_time = start;
         self.demand = Demand::new(&self.config);
         self.demand.seen(&self.port, &self.port.readings());
-        seen.resets += 1;
+        seen[Met::Resets] += 1;
     }
 }
 
 /// One opening and what follows, about so many samples or so many calls.
 fn run(seed: u64, samples: u64, calls: u64, seen: &mut Seen) {
     let mut random = Random::new(seed);
-    let config = random.config();
+    let config = random.detector_config();
     let restoring = random.one_in(4);
     let mut sides = Sides::open(config, restoring);
     let mut sound = Sound::new(Random::new(random.word()), &config);
     let cutting = Cutting::new(&mut random);
     // Some runs have none of the rare calls, so that streams get long.
     let rare = if random.one_in(3) { u64::MAX } else { 40 };
-    seen.runs += 1;
+    seen[Met::Runs] += 1;
     let (mut heard, mut called) = (0, 0);
     let mut block = [0.0; LONGEST + 1];
     while heard < samples && called < calls {
@@ -357,27 +304,27 @@ fn run(seed: u64, samples: u64, calls: u64, seen: &mut Seen) {
             match random.within(0, 5) {
                 0 | 1 => {
                     sides.call(None, &mut random, seen);
-                    seen.flushes += 1;
+                    seen[Met::Flushes] += 1;
                 }
-                2 => sides.reset(random.start(), seen),
+                2 => sides.reset(random.detector_start(), seen),
                 3 => {
                     let start = 1 << 63 | random.word();
                     sides.refused(13, 0, 0, |memory, _| memory.reset(start));
-                    seen.refused_13 += 1;
+                    seen[Met::Refused13] += 1;
                 }
                 4 => {
                     sides.refused(15, 0, 8, |memory, rows| memory.detect(&block, rows));
-                    seen.refused_15 += 1;
+                    seen[Met::Refused15] += 1;
                 }
                 _ => {
                     let length = random.within(1, LONGEST as i32) as usize;
                     let place = random.within(0, length as i32 - 1) as usize;
                     let mut bad = block;
-                    bad[place] = random.bad_sample();
+                    bad[place] = random.detector_bad_sample();
                     sides.refused(16, place as u64, 8, |memory, rows| {
                         memory.detect(&bad[..length], rows)
                     });
-                    seen.refused_16 += 1;
+                    seen[Met::Refused16] += 1;
                 }
             }
         }
@@ -387,32 +334,31 @@ fn run(seed: u64, samples: u64, calls: u64, seen: &mut Seen) {
         }
         seen.meet(&config, &block[..length]);
         sides.call(Some(&block[..length]), &mut random, seen);
-        seen.detects += 1;
+        seen[Met::Detects] += 1;
         heard += length as u64;
-        seen.samples += length as u64;
+        seen[Met::Samples] += length as u64;
     }
     sides.call(None, &mut random, seen);
-    seen.flushes += 1;
+    seen[Met::Flushes] += 1;
 }
 
 /// Every kind of call was met.
 fn covered(seen: &Seen) {
-    let counts = [
-        seen.resets,
-        seen.rows,
-        seen.open,
-        seen.warming,
-        seen.restored,
-        seen.refused_13,
-        seen.refused_15,
-        seen.refused_16,
-        seen.refused_18,
-        seen.loud,
-        seen.frames - seen.loud,
-        seen.halfway,
-        seen.subnormal,
-    ];
-    assert!(counts.iter().all(|count| *count > 0), "{seen:?}");
+    seen.assert_met(&[
+        Met::Resets,
+        Met::Rows,
+        Met::Open,
+        Met::Warming,
+        Met::Restored,
+        Met::Refused13,
+        Met::Refused15,
+        Met::Refused16,
+        Met::Refused18,
+        Met::Loud,
+        Met::Halfway,
+        Met::Subnormal,
+    ]);
+    assert!(seen[Met::Frames] > seen[Met::Loud], "{seen}");
 }
 
 #[test]
@@ -422,7 +368,7 @@ fn runs_are_the_original_s() {
         run(seed, 50_000, 120, &mut seen);
     }
     covered(&seen);
-    println!("{}", seen.line());
+    seen.say("detector");
 }
 
 #[test]
@@ -433,6 +379,6 @@ fn long_runs_are_the_original_s() {
         run(1_000_000 + block, 80_000, 400, seen);
     });
     covered(&seen);
-    assert!(seen.samples >= 1_000_000_000);
-    println!("{} in {} s", seen.line(), time.as_secs());
+    assert!(seen[Met::Samples] >= 1_000_000_000);
+    seen.say_after("detector", time);
 }

@@ -1,105 +1,48 @@
 //! The compiled filter against the original's, bit by bit, and every refusal of it against 01's words.
 //!
-//! The long run: `tools/host test --release --test filter -- --ignored --nocapture`.
+//! The long run: `tools/host test --release --test all -- --ignored --nocapture filter::`.
 
-#[path = "filter/cases.rs"]
 mod cases;
-#[path = "common/choose.rs"]
-mod choose;
-#[path = "common/for_original.rs"]
-mod for_original;
-#[path = "filter/judge.rs"]
 mod judge;
-#[path = "common/long.rs"]
-mod long;
-#[path = "common/random.rs"]
-mod random;
 
 use std::collections::BTreeSet;
-use std::ops::{AddAssign, Index, IndexMut};
 
-use cases::{COMMON_RATES, Cutting, FULL, LONGEST, Sound, below, power};
+use cases::{COMMON_RATES, Cutting, Sound, below, power};
+use fallowcart::layout::{filter, stage};
 use fallowcart::{Filter, HighpassOrder, PreprocessingConfig, Refusal, VadContext, raw};
-use for_original::for_original;
-use judge::{BIAS, HIGHPASS, NAMES, ORDER, Operation, RANGES, REMOVAL, STAGES, State};
-use long::long;
-use random::Random;
+use judge::{FLAGS, NAMES, Operation, RANGES, STAGES, State};
 use speech_prep::preprocessing as original;
 
-/// What the runs met.
-#[derive(Clone, Copy, Debug)]
-enum Count {
-    Settings,
-    /// Settings for which the original's formulas miss 24's ranges.
-    Missed,
-    Calls,
-    Samples,
-    Resets,
-    Restored,
-    Refused15,
-    Refused16,
-    Refused25,
-    /// Samples of magnitude 65,536.
-    FullScale,
-    /// Outputs.
-    Subnormal,
-    PlusZero,
-    MinusZero,
-    /// Biases after a call.
-    BiasMinusZero,
-    BiasSubnormal,
-    BiasNormal,
-}
+use crate::common::for_original::ForOriginal;
+use crate::common::long::long;
+use crate::common::random::Random;
+use crate::common::tally::{Each, Tally, counts};
+use crate::common::{FULL, LONGEST};
 
-const COUNTS: usize = Count::BiasNormal as usize + 1;
-
-#[derive(Default, Clone, Copy)]
-struct Seen([u64; COUNTS]);
-
-impl Index<Count> for Seen {
-    type Output = u64;
-    fn index(&self, count: Count) -> &u64 {
-        &self.0[count as usize]
+counts! {
+    /// What the runs met.
+    Count {
+        Samples: "samples",
+        Calls: "calls",
+        Settings: "settings",
+        Missed: "more settings for which the formulas miss 24's ranges",
+        FullScale: "samples of magnitude 65,536",
+        Subnormal: "subnormal outputs",
+        MinusZero: "outputs of -0",
+        PlusZero: "outputs of +0",
+        /// Biases after a call.
+        BiasMinusZero: "biases of -0",
+        BiasSubnormal: "subnormal biases",
+        BiasNormal: "normal biases",
+        Resets: "resets",
+        Restored: "states restored",
+        Refused15: "calls refused by 15",
+        Refused16: "calls refused by 16",
+        Refused25: "calls refused by 25",
     }
 }
 
-impl IndexMut<Count> for Seen {
-    fn index_mut(&mut self, count: Count) -> &mut u64 {
-        &mut self.0[count as usize]
-    }
-}
-
-impl AddAssign for Seen {
-    fn add_assign(&mut self, other: Seen) {
-        for (count, other) in self.0.iter_mut().zip(other.0) {
-            *count += other;
-        }
-    }
-}
-
-impl Seen {
-    fn line(&self) -> String {
-        format!(
-            "{} samples compared in {} calls of {} settings ({} more missed 24's ranges): {} outputs subnormal, {} -0, {} +0; the bias {} times -0, {} \
-             times subnormal; {} resets, {} states restored, {} calls refused (15: {}, 16: {}, 25: {}); 0 differences",
-            self[Count::Samples],
-            self[Count::Calls],
-            self[Count::Settings],
-            self[Count::Missed],
-            self[Count::Subnormal],
-            self[Count::MinusZero],
-            self[Count::PlusZero],
-            self[Count::BiasMinusZero],
-            self[Count::BiasSubnormal],
-            self[Count::Resets],
-            self[Count::Restored],
-            self[Count::Refused15] + self[Count::Refused16] + self[Count::Refused25],
-            self[Count::Refused15],
-            self[Count::Refused16],
-            self[Count::Refused25],
-        )
-    }
-}
+type Seen = Tally<Count>;
 
 fn bits(samples: &[f32]) -> Vec<u32> {
     samples.iter().map(|sample| sample.to_bits()).collect()
@@ -133,7 +76,7 @@ struct Sides {
 impl Sides {
     /// `None` where the formulas miss 24's ranges, which the port has to notice.
     fn open(config: PreprocessingConfig) -> Option<Sides> {
-        let original = original::DcHighPassFilter::new(for_original(config))
+        let original = original::DcHighPassFilter::new(config.for_original())
             .expect("the original has no refusal 24");
         let coefficients = config.coefficients();
         let port = match (judge::opening(config, coefficients), Filter::new(config)) {
@@ -191,9 +134,9 @@ impl Sides {
             }
         }
         let bias = self.port.dc_bias();
-        seen[Count::BiasMinusZero] += u64::from(bias.to_bits() == 1 << 31);
-        seen[Count::BiasSubnormal] += u64::from(bias.is_subnormal());
-        seen[Count::BiasNormal] += u64::from(bias.is_normal());
+        seen.count(Count::BiasMinusZero, bias.to_bits() == 1 << 31);
+        seen.count(Count::BiasSubnormal, bias.is_subnormal());
+        seen.count(Count::BiasNormal, bias.is_normal());
     }
 
     fn same(&self) {
@@ -229,11 +172,11 @@ impl Sides {
         let place = random.word() as usize % len;
         let bad = !(too_long || too_short) || random.one_in(2);
         if bad {
-            samples[place] = random.bad_sample();
+            samples[place] = random.filter_bad_sample();
             // Later ones do not count.
             if random.one_in(2) {
                 let later = place + random.word() as usize % (len - place);
-                samples[later] = random.bad_sample();
+                samples[later] = random.filter_bad_sample();
             }
         }
         let room = match too_short {
@@ -267,7 +210,7 @@ impl Sides {
 fn run(sound: Sound, seed: u64, samples: u64) -> Seen {
     let (mut seen, mut random) = (Seen::default(), Random::new(seed));
     while seen[Count::Samples] < samples {
-        let Some(mut sides) = Sides::open(random.config()) else {
+        let Some(mut sides) = Sides::open(random.filter_config()) else {
             seen[Count::Missed] += 1;
             continue;
         };
@@ -297,18 +240,16 @@ fn run(sound: Sound, seed: u64, samples: u64) -> Seen {
 
 /// Fails unless the sound was what it is for.
 fn assert_point(sound: Sound, seen: &Seen) {
-    println!("{sound:?}: {}", seen.line());
+    seen.say(&format!("filter, {sound:?}"));
     let samples = seen[Count::Samples];
-    for count in [
+    seen.assert_met(&[
         Count::Settings,
         Count::Resets,
         Count::Restored,
         Count::Refused15,
         Count::Refused16,
         Count::Refused25,
-    ] {
-        assert!(seen[count] > 0, "{sound:?}: {count:?}");
-    }
+    ]);
     // Each count with n: at least one output, or sample, or call, in n must be like that.
     let calls = seen[Count::Calls];
     let wanted: &[(Count, u64, u64)] = match sound {
@@ -406,7 +347,7 @@ fn mixtures() {
 
 #[test]
 fn the_defaults_are_the_originals() {
-    let ours = for_original(PreprocessingConfig::default());
+    let ours = PreprocessingConfig::default().for_original();
     let original = original::PreprocessingConfig::default();
     assert_eq!(format!("{ours:?}"), format!("{original:?}"));
 }
@@ -432,7 +373,7 @@ fn no_context_is_no_label() {
     let mut random = Random::new(3);
     let mut moved = 0;
     for _ in 0..2_000 {
-        let config = random.config();
+        let config = random.filter_config();
         let Ok(filter) = Filter::new(config) else {
             continue;
         };
@@ -444,17 +385,42 @@ fn no_context_is_no_label() {
             assert_eq!(answer, 0);
             assert_eq!(Some(state), expected.end.as_ref().ok().copied());
             assert_eq!(bits(&output), bits(&expected.output));
-            moved += u64::from(state[BIAS] != 0);
+            moved += u64::from(state[filter::BIAS] != 0);
         }
     }
     assert!(moved > 1_000, "{moved}");
 }
 
+counts! {
+    /// What openings answered.
+    Opening {
+        Accepted: "accepted",
+        By20: "refused by 20",
+        By21: "refused by 21",
+        By22: "refused by 22",
+        By23: "refused by 23",
+        By24: "refused by 24",
+    }
+}
+
+impl Opening {
+    fn of(refusal: u64) -> Opening {
+        match refusal {
+            0 => Opening::Accepted,
+            20 => Opening::By20,
+            21 => Opening::By21,
+            22 => Opening::By22,
+            23 => Opening::By23,
+            24 => Opening::By24,
+            _ => panic!("{refusal} at an opening"),
+        }
+    }
+}
+
 /// Where the formulas miss 24's ranges: the port refuses there, and nowhere else.
 #[derive(Default)]
 struct Misses {
-    opened: u64,
-    refused: u64,
+    openings: Tally<Opening>,
     /// The lowest cutoff, and how many floats below half the rate any is at most.
     lowest: Option<f32>,
     farthest: u32,
@@ -476,10 +442,10 @@ impl Misses {
                 ..Default::default()
             };
             if Sides::open(config).is_some() {
-                self.opened += 1;
+                self.openings[Opening::Accepted] += 1;
                 continue;
             }
-            self.refused += 1;
+            self.openings[Opening::By24] += 1;
             self.lowest = Some(self.lowest.map_or(cutoff, |lowest| lowest.min(cutoff)));
             let places = (rate as f32 / 2.0).to_bits() - cutoff.to_bits();
             self.farthest = self.farthest.max(places);
@@ -492,15 +458,20 @@ impl Misses {
         }
     }
 
-    fn line(&self) -> String {
-        let names: Vec<_> = self.names.iter().map(String::as_str).collect();
-        let at = self.lowest.map_or(String::new(), |lowest| {
+    /// How many openings there were.
+    fn tried(&self) -> u64 {
+        self.openings[Opening::Accepted] + self.openings[Opening::By24]
+    }
+
+    fn say(&self, what: &str) {
+        self.openings.say(what);
+        if let Some(lowest) = self.lowest {
+            let names: Vec<_> = self.names.iter().map(String::as_str).collect();
             let (farthest, names) = (self.farthest, names.join(", "));
-            format!(
-                "; the lowest {lowest} Hz, at most {farthest} floats below half the rate: {names}"
-            )
-        });
-        format!("{} opened, {} refused by 24{at}", self.opened, self.refused)
+            println!(
+                "{what}: the lowest {lowest} Hz, at most {farthest} floats below half the rate: {names}"
+            );
+        }
     }
 }
 
@@ -516,8 +487,8 @@ fn formulas_at_common_rates() {
             let grid = (0..LAST).map(|n| 20.0 * (half / 20.0).powf(n as f32 / LAST as f32));
             misses.scan(rate, order, grid);
             misses.scan(rate, order, (1..=LAST).map(|places| below(half, places)));
-            println!("{rate} Hz, {order:?}: {}", misses.line());
-            assert_eq!(misses.opened + misses.refused, u64::from(2 * LAST));
+            misses.say(&format!("openings, {rate} Hz, {order:?}"));
+            assert_eq!(misses.tried(), u64::from(2 * LAST));
         }
     }
 }
@@ -527,16 +498,17 @@ fn formulas_at_common_rates() {
 fn formulas_at_every_rate() {
     let (mut misses, mut rates) = (Misses::default(), 0);
     for rate in 8_000..=48_000 {
-        let before = misses.refused;
+        let before = misses.openings[Opening::By24];
         for order in ORDERS {
             let half = rate as f32 / 2.0;
             misses.scan(rate, order, (1..=4).map(|places| below(half, places)));
         }
-        rates += u64::from(misses.refused > before);
+        rates += u64::from(misses.openings[Opening::By24] > before);
     }
-    println!("{rates} of 40001 rates: {}", misses.line());
-    assert_eq!(misses.opened + misses.refused, 40_001 * 2 * 4);
-    assert!(rates > 1_000 && misses.opened > misses.refused);
+    misses.say(&format!("openings, refused at {rates} of 40001 rates"));
+    assert_eq!(misses.tried(), 40_001 * 2 * 4);
+    let openings = &misses.openings;
+    assert!(rates > 1_000 && openings[Opening::Accepted] > openings[Opening::By24]);
 }
 
 /// Room past the state, which has to stay.
@@ -559,7 +531,7 @@ fn assert_settled(words: &[u32], expected: State) {
 fn opens(config: PreprocessingConfig, coefficients: [[f32; 5]; 2]) -> u64 {
     let expected = judge::opening(config, coefficients);
     let mut words = [[0x5555_5555; Filter::STATE_WORDS].as_slice(), &PAST].concat();
-    let answer = raw::filter_open(&config, coefficients.as_flattened(), &mut words);
+    let answer = raw::filter_open(&config.into(), coefficients.as_flattened(), &mut words);
     assert_eq!(answer, expected, "{config:?}, {coefficients:?}");
     let state = match expected {
         0 => judge::opened(config, coefficients),
@@ -581,7 +553,7 @@ fn around(x: f32) -> [f32; 3] {
 
 #[test]
 fn openings() {
-    let mut met = [0; 28];
+    let mut met = Tally::default();
     let default = PreprocessingConfig::default();
     let good = default.coefficients();
     let wrong = [[0.5, -1.0, 0.5, f32::NAN, 0.5], good[1]];
@@ -627,24 +599,31 @@ fn openings() {
                         ..default
                     };
                     let refusal = opens(config, coefficients);
-                    met[refusal as usize] += 1;
+                    met[Opening::of(refusal)] += 1;
                     // The original checks the same but for the coefficients, and has a wider domain of rates.
                     if refusal != 20 {
-                        let valid = for_original(config).validate().is_ok();
+                        let valid = config.for_original().validate().is_ok();
                         assert_eq!(valid, matches!(refusal, 0 | 24), "{config:?}");
                     }
                 }
             }
         }
     }
-    println!("openings: {met:?}");
-    assert!(met[0] > 0 && met[20..=24].iter().all(|&count| count > 0));
+    met.say("openings");
+    met.assert_met(&[
+        Opening::Accepted,
+        Opening::By20,
+        Opening::By21,
+        Opening::By22,
+        Opening::By23,
+        Opening::By24,
+    ]);
 }
 
 /// Each limit of 24 with the floats beside it, in each stage, in use and not, at opening and in a state.
 #[test]
 fn limits_of_coefficients() {
-    let (mut accepted, mut refused) = (0, 0);
+    let mut met = Tally::default();
     let mut random = Random::new(4);
     let special = [f32::NAN, f32::INFINITY, f32::NEG_INFINITY, 0.0, -0.0];
     for highpass_order in ORDERS {
@@ -663,14 +642,14 @@ fn limits_of_coefficients() {
                     coefficients[stage][n] = value;
                     state[at + n] = value.to_bits();
                     let refusal = opens(config, coefficients);
-                    accepted += u64::from(refusal == 0);
-                    refused += u64::from(refusal == 24);
+                    met[Opening::of(refusal)] += 1;
                     assert_eq!(answers(state, &[0.5, -0.25], Some(false)), refusal == 0);
                 }
             }
         }
     }
-    println!("limits of 24: {accepted} accepted, {refused} refused");
+    met.say("openings, limits of 24");
+    let (accepted, refused) = (met[Opening::Accepted], met[Opening::By24]);
     assert_eq!(accepted + refused, 2 * 2 * 5 * 11);
     assert!(accepted > 100 && refused > 50);
 }
@@ -691,7 +670,7 @@ fn short_slices() {
             },
         ] {
             assert_eq!(
-                raw::filter_open(&config, coefficients.as_flattened(), &mut words),
+                raw::filter_open(&config.into(), coefficients.as_flattened(), &mut words),
                 27
             );
         }
@@ -712,7 +691,7 @@ fn short_slices() {
     for len in 0..10 {
         let mut words = state;
         let few = &coefficients.as_flattened()[..len];
-        assert_eq!(raw::filter_open(&config, few, &mut words), 24);
+        assert_eq!(raw::filter_open(&config.into(), few, &mut words), 24);
         assert_eq!(words, [0; Filter::STATE_WORDS]);
     }
 }
@@ -726,7 +705,7 @@ fn answers(state: State, samples: &[f32], is_silence: Option<bool>) -> bool {
     let sound = !judge::malformed(&state);
 
     let bias = if sound {
-        u64::from(state[BIAS]) << 8
+        u64::from(state[filter::BIAS]) << 8
     } else {
         27
     };
@@ -820,8 +799,8 @@ fn fused_products_are_rounded_once() {
     for (tie, sample, expected) in cases {
         for stages in [[tie, pass], [pass, tie]] {
             let mut state = judge::opened(config, [[0.0; 5]; 2]);
-            for (at, stage) in STAGES.into_iter().zip(stages) {
-                state[at..at + 9].copy_from_slice(&stage.map(f32::to_bits));
+            for (at, words) in STAGES.into_iter().zip(stages) {
+                state[at..][..stage::LENGTH].copy_from_slice(&words.map(f32::to_bits));
             }
             assert!(processes(state, &[sample], None).is_none());
             let (mut filter, mut output) = (Filter::from_state(state).expect("sound"), [0.0]);
@@ -836,7 +815,7 @@ fn fused_products_are_rounded_once() {
         ..Default::default()
     };
     let mut state = judge::opened(config, config.coefficients());
-    state[BIAS] = a.to_bits();
+    state[filter::BIAS] = a.to_bits();
     let mut filter = Filter::from_state(state).expect("sound");
     assert_eq!(filter.process(&[power(-60)], None, &mut [0.0]), Ok(()));
     assert_eq!(filter.dc_bias(), once / 2.0);
@@ -853,37 +832,62 @@ fn any_coefficients(random: &mut Random) -> [[f32; 5]; 2] {
     })
 }
 
-/// What a block that overflows must leave.
-#[derive(Default, Debug)]
-struct Overflows {
-    blocks: u64,
-    /// By stage, and by operation: inner, outer, feedback, output.
-    seen: [[u64; 4]; 2],
-    first: u64,
-    later: u64,
-    /// The bias had moved, and has to be the old one again.
-    moved: u64,
+counts! {
+    /// Blocks from states that may overflow.
+    Overflowed {
+        Blocks: "blocks",
+        FirstInner: "overflows of the first stage's inner sum",
+        FirstOuter: "overflows of the first stage's outer sum",
+        FirstFeedback: "overflows of the first stage's feedback",
+        FirstOutput: "overflows of the first stage's output",
+        SecondInner: "overflows of the second stage's inner sum",
+        SecondOuter: "overflows of the second stage's outer sum",
+        SecondFeedback: "overflows of the second stage's feedback",
+        SecondOutput: "overflows of the second stage's output",
+        AtOnce: "at the first sample",
+        Later: "at a later one",
+        /// It has to be the old one again.
+        Moved: "with a bias that had moved",
+    }
 }
+
+/// By stage and operation.
+const OVERFLOWS: [[Overflowed; 4]; 2] = [
+    [
+        Overflowed::FirstInner,
+        Overflowed::FirstOuter,
+        Overflowed::FirstFeedback,
+        Overflowed::FirstOutput,
+    ],
+    [
+        Overflowed::SecondInner,
+        Overflowed::SecondOuter,
+        Overflowed::SecondFeedback,
+        Overflowed::SecondOutput,
+    ],
+];
+
+type Overflows = Tally<Overflowed>;
 
 impl Overflows {
     fn process(&mut self, state: State, samples: &[f32], is_silence: Option<bool>) -> bool {
-        self.blocks += 1;
+        self[Overflowed::Blocks] += 1;
         let Some(overflow) = processes(state, samples, is_silence) else {
             return false;
         };
         assert_ne!(overflow.operation, Operation::Other, "{state:?}");
-        self.seen[overflow.stage][overflow.operation as usize] += 1;
-        self.first += u64::from(overflow.place == 0);
-        self.later += u64::from(overflow.place > 0);
+        self[OVERFLOWS[overflow.stage][overflow.operation as usize]] += 1;
+        self.count(Overflowed::AtOnce, overflow.place == 0);
+        self.count(Overflowed::Later, overflow.place > 0);
         let settled = judge::process(no_highpass(state), samples, is_silence);
-        let bias = settled.end.ok().expect("a bias never overflows")[BIAS];
-        self.moved += u64::from(bias != state[BIAS]);
+        let bias = settled.end.ok().expect("a bias never overflows")[filter::BIAS];
+        self.count(Overflowed::Moved, bias != state[filter::BIAS]);
         true
     }
 }
 
 fn no_highpass(mut state: State) -> State {
-    state[HIGHPASS] = 0;
+    state[filter::ENABLE_HIGHPASS] = 0;
     state
 }
 
@@ -893,7 +897,7 @@ fn overflows_from_memory() {
     let (mut random, mut overflows) = (Random::new(5), Overflows::default());
     let mut overflowed = 0;
     for _ in 0..100_000 {
-        let config = random.config();
+        let config = random.filter_config();
         let coefficients = match random.one_in(4) {
             true => config.coefficients(),
             false => any_coefficients(&mut random),
@@ -904,7 +908,7 @@ fn overflows_from_memory() {
         let mut state = judge::opened(config, coefficients);
         let (low, high) = random.pick(&[(126, 127), (120, 127), (-20, 127)]);
         for at in judge::remembered() {
-            let huge = at != BIAS || random.one_in(4);
+            let huge = at != filter::BIAS || random.one_in(4);
             let memory = if huge {
                 random.float(low, high)
             } else {
@@ -916,16 +920,14 @@ fn overflows_from_memory() {
         let samples = Sound::Noise.samples(&mut random, len);
         overflowed += u64::from(overflows.process(state, &samples, random.label()));
     }
-    println!("overflows from memory: {overflows:?}");
-    assert!(overflowed > 10_000 && overflows.blocks - overflowed > 10_000);
-    assert!(overflows.first > 1_000 && overflows.later > 1_000 && overflows.moved > 1_000);
-    assert!(
-        overflows
-            .seen
-            .as_flattened()
-            .iter()
-            .all(|&count| count > 100)
-    );
+    overflows.say("overflows from memory");
+    assert!(overflowed > 10_000 && overflows[Overflowed::Blocks] - overflowed > 10_000);
+    for count in [Overflowed::AtOnce, Overflowed::Later, Overflowed::Moved] {
+        assert!(overflows[count] > 1_000, "{count:?}: {overflows}");
+    }
+    for &count in OVERFLOWS.as_flattened() {
+        assert!(overflows[count] > 100, "{count:?}: {overflows}");
+    }
 }
 
 /// Coefficients with which the filter grows from ordinary sound until it overflows.
@@ -936,7 +938,7 @@ fn overflows_by_growth() {
     for _ in 0..300 {
         let config = PreprocessingConfig {
             enable_highpass: true,
-            ..random.config()
+            ..random.filter_config()
         };
         let mut coefficients = any_coefficients(&mut random);
         // Poles at -1 ± √2 or their mirror: each sample multiplies by 2.4.
@@ -966,9 +968,19 @@ fn overflows_by_growth() {
                 .expect("it did not overflow");
         }
     }
-    println!("overflows by growth: {overflows:?}");
-    assert!(overflowed > 100 && overflows.later > 100);
+    overflows.say("overflows by growth");
+    assert!(overflowed > 100 && overflows[Overflowed::Later] > 100);
 }
+
+counts! {
+    /// States of any content.
+    Met {
+        Malformed: "malformed states",
+        Sound: "sound states",
+    }
+}
+
+type States = Tally<Met>;
 
 /// Sound states, each with one word that breaks a rule.
 #[test]
@@ -981,10 +993,10 @@ fn malformed_states() {
         0x7f80_0001,
         0xffff_ffff,
     ];
+    let mut met = States::default();
     let mut broken = [0; Filter::STATE_WORDS];
-    let mut sound = 0;
     for _ in 0..200 {
-        let config = random.config();
+        let config = random.filter_config();
         let coefficients = config.coefficients();
         if judge::opening(config, coefficients) != 0 {
             continue;
@@ -995,37 +1007,37 @@ fn malformed_states() {
         }
         let samples = Sound::Speech.samples(&mut random, 5);
         assert!(answers(state, &samples, random.label()));
-        sound += 1;
+        met[Met::Sound] += 1;
         let half = config.sample_rate_hz as f32 / 2.0;
-        let settings: [&[u32]; 3] = [
-            &[
-                0,
-                20f32.next_down().to_bits(),
-                half.to_bits(),
-                half.next_up().to_bits(),
-                (-80f32).to_bits(),
-            ],
-            &[0, 7_999, 48_001, u32::MAX, 16_000f32.to_bits()],
-            &[
-                0,
-                1 << 31,
-                1f32.to_bits(),
-                1f32.next_up().to_bits(),
-                (-0.5f32).to_bits(),
-            ],
+        let settings: [(usize, [u32; 5]); 3] = [
+            (
+                filter::HIGHPASS_CUTOFF_HZ,
+                [0.0, 20f32.next_down(), half, half.next_up(), -80.0].map(f32::to_bits),
+            ),
+            (
+                filter::SAMPLE_RATE_HZ,
+                [0, 7_999, 48_001, u32::MAX, 16_000f32.to_bits()],
+            ),
+            (
+                filter::DC_BIAS_ALPHA,
+                [0.0, -0.0, 1.0, 1f32.next_up(), -0.5].map(f32::to_bits),
+            ),
         ];
         let mut wrong = Vec::new();
-        for (at, words) in settings.into_iter().enumerate() {
-            wrong.extend(words.iter().map(|&word| (at, word)));
+        for (at, words) in settings {
+            wrong.extend(words.map(|word| (at, word)));
         }
-        for at in [0, 2].into_iter().chain(judge::remembered()) {
+        for at in [filter::HIGHPASS_CUTOFF_HZ, filter::DC_BIAS_ALPHA]
+            .into_iter()
+            .chain(judge::remembered())
+        {
             wrong.extend(not_finite.map(|word| (at, word)));
         }
-        for at in REMOVAL..=ORDER {
+        for at in FLAGS {
             let any = (random.word() as u32).max(2);
             wrong.extend([2, 3, 256, 1 << 31, u32::MAX, any].map(|word| (at, word)));
         }
-        for &at in &STAGES[..1 + state[ORDER] as usize] {
+        for &at in &STAGES[..1 + state[filter::FOURTH_ORDER] as usize] {
             for (n, (low, high)) in RANGES.into_iter().enumerate() {
                 wrong.extend([low.next_down(), high.next_up()].map(|x| (at + n, x.to_bits())));
                 wrong.extend(not_finite.map(|word| (at + n, word)));
@@ -1038,23 +1050,24 @@ fn malformed_states() {
                 !answers(state, &samples, random.label()),
                 "word {at}: {word:#x}"
             );
+            met[Met::Malformed] += 1;
             broken[at] += 1;
         }
     }
-    println!("malformed states: {broken:?} by word, from {sound} sound ones");
-    assert!(sound > 100 && broken.iter().all(|&count| count > 100));
+    met.say("states, each word broken alone");
+    assert!(met[Met::Sound] > 100 && broken.iter().all(|&count| count > 100));
     assert!(!answers([0; Filter::STATE_WORDS], &[0.5], None));
 }
 
 /// Words at random, all or a few: answered, and by the judge's words.
-fn random_words(seed: u64, cases: u64) -> [u64; 2] {
-    let (mut random, mut met) = (Random::new(seed), [0; 2]);
+fn random_words(seed: u64, cases: u64) -> States {
+    let (mut random, mut met) = (Random::new(seed), States::default());
     for _ in 0..cases {
         let mut state = [(); Filter::STATE_WORDS].map(|()| random.word() as u32);
         if !random.one_in(4) {
-            state = judge::opened(random.config(), any_coefficients(&mut random));
+            state = judge::opened(random.filter_config(), any_coefficients(&mut random));
             for _ in 0..random.within(1, 3) {
-                let at = random.within(0, 24) as usize;
+                let at = random.within(0, Filter::STATE_WORDS as i32 - 1) as usize;
                 state[at] = match random.within(0, 2) {
                     0 => random.word() as u32,
                     1 => random.pick(&[0, 1, 2, 1 << 31, 0x7f80_0000, 0x7fc0_0000, 0x3f80_0000]),
@@ -1064,29 +1077,21 @@ fn random_words(seed: u64, cases: u64) -> [u64; 2] {
         }
         let len = random.within(0, 3) as usize;
         let samples = Sound::Noise.samples(&mut random, len);
-        met[usize::from(answers(state, &samples, random.label()))] += 1;
+        let sound = answers(state, &samples, random.label());
+        met[if sound { Met::Sound } else { Met::Malformed }] += 1;
     }
     met
 }
 
 #[test]
 fn states_at_random() {
-    let [malformed, sound] = random_words(9, 300_000);
-    println!("states at random: {malformed} malformed, {sound} sound");
-    assert!(malformed > 100_000 && sound > 30_000);
+    let met = random_words(9, 300_000);
+    met.say("states at random");
+    assert!(met[Met::Malformed] > 100_000 && met[Met::Sound] > 30_000);
 }
 
-/// Tallies by kind of sound.
-#[derive(Default)]
-struct Kinds([Seen; Sound::ALL.len()]);
-
-impl AddAssign for Kinds {
-    fn add_assign(&mut self, other: Kinds) {
-        for (seen, other) in self.0.iter_mut().zip(other.0) {
-            *seen += other;
-        }
-    }
-}
+/// By kind of sound.
+type Kinds = Each<Count, { Sound::ALL.len() }>;
 
 #[test]
 #[ignore = "minutes"]
@@ -1094,40 +1099,25 @@ fn long_sounds() {
     const PART: u64 = 1_000_000;
     const PARTS: u64 = 60;
     let kinds = Sound::ALL.len() as u64;
-    let (tallies, time) = long("sounds", kinds * PARTS, |tallies: &mut Kinds, part| {
+    let (seen, time) = long("sounds", kinds * PARTS, |seen: &mut Kinds, part| {
         let kind = (part % kinds) as usize;
         // Seeds other than the ordinary run's.
-        tallies.0[kind] += run(Sound::ALL[kind], Random::new(part).word(), PART);
+        seen.0[kind] += &run(Sound::ALL[kind], Random::new(part).word(), PART);
     });
-    let mut all = Seen::default();
-    for (sound, seen) in Sound::ALL.into_iter().zip(tallies.0) {
-        assert_point(sound, &seen);
-        all += seen;
+    for (sound, seen) in Sound::ALL.into_iter().zip(&seen.0) {
+        assert_point(sound, seen);
     }
+    let all = seen.all();
     assert!(all[Count::Samples] >= kinds * PARTS * PART);
-    eprintln!("filter: {}; {:.0} s", all.line(), time.as_secs_f64());
-}
-
-/// Malformed and sound states.
-#[derive(Default)]
-struct States([u64; 2]);
-
-impl AddAssign for States {
-    fn add_assign(&mut self, other: States) {
-        self.0[0] += other.0[0];
-        self.0[1] += other.0[1];
-    }
+    all.say_after("filter", time);
 }
 
 #[test]
 #[ignore = "a minute"]
 fn long_states() {
-    let (States([malformed, sound]), time) = long("states", 400, |states: &mut States, part| {
-        *states += States(random_words(Random::new(part).word(), 50_000));
+    let (met, time) = long("states", 400, |met: &mut States, part| {
+        *met += &random_words(Random::new(part).word(), 50_000);
     });
-    assert_eq!(malformed + sound, 20_000_000);
-    eprintln!(
-        "states at random: {malformed} malformed, {sound} sound, 0 differences; {:.0} s",
-        time.as_secs_f64()
-    );
+    assert_eq!(met[Met::Malformed] + met[Met::Sound], 20_000_000);
+    met.say_after("states at random", time);
 }

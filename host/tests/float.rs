@@ -5,29 +5,22 @@
 //! told not to: with `GLIBC_TUNABLES=glibc.cpu.hwcaps=-FMA` it runs its own algorithm. The judges of a root: the processor's instruction, and whole
 //! numbers.
 //!
-//! The long runs: `tools/host test --release --test float -- --ignored --nocapture`.
+//! The long runs: `tools/host test --release --test all -- --ignored --nocapture float::`.
 
-#[path = "float/cases.rs"]
 mod cases;
-#[path = "common/choose.rs"]
-mod choose;
-#[path = "float/exact.rs"]
 mod exact;
-#[path = "common/long.rs"]
-mod long;
-#[path = "common/random.rs"]
-mod random;
 
 use std::io::Write;
-use std::ops::AddAssign;
 use std::sync::LazyLock;
 
 use cases::{Family, compose, special};
 use exact::Place;
 use fallowcart::float::{mul_add, mul_add_bits, sqrt, sqrt_bits};
 use fallowcart::score;
-use long::long;
-use random::Random;
+
+use crate::common::long::long;
+use crate::common::random::Random;
+use crate::common::tally::{Each, Tally, counts};
 
 /// a * b + c by the processor's instruction, `None` where there is none.
 fn by_instruction(a: f32, b: f32, c: f32) -> Option<f32> {
@@ -84,51 +77,30 @@ fn hex(bits: Option<u32>) -> String {
     bits.map_or("no number".to_string(), |bits| format!("{bits:#010x}"))
 }
 
-/// What the fused cases were, by the exact judge.
-#[derive(Default, Clone, Copy, Debug)]
-struct Seen {
-    cases: u64,
-    by_instruction: u64,
-    by_c_library: u64,
-    /// An operand is NaN or infinite.
-    not_finite: u64,
-    overflows: u64,
-    /// Answers.
-    largest: u64,
-    smallest_normal: u64,
-    subnormal: u64,
-    plus_zero: u64,
-    minus_zero: u64,
-    /// Answers of ±0 for a sum that is not 0.
-    vanished: u64,
-    ties: u64,
-    beside: u64,
-    cancelled: u64,
-    settled: u64,
-    /// Fusing in f64 and narrowing answers otherwise: it rounds twice.
-    twice_rounded: u64,
-}
-
-impl AddAssign for Seen {
-    fn add_assign(&mut self, other: Seen) {
-        self.cases += other.cases;
-        self.by_instruction += other.by_instruction;
-        self.by_c_library += other.by_c_library;
-        self.not_finite += other.not_finite;
-        self.overflows += other.overflows;
-        self.largest += other.largest;
-        self.smallest_normal += other.smallest_normal;
-        self.subnormal += other.subnormal;
-        self.plus_zero += other.plus_zero;
-        self.minus_zero += other.minus_zero;
-        self.vanished += other.vanished;
-        self.ties += other.ties;
-        self.beside += other.beside;
-        self.cancelled += other.cancelled;
-        self.settled += other.settled;
-        self.twice_rounded += other.twice_rounded;
+counts! {
+    /// What the fused cases were, by the exact judge.
+    Fused {
+        Cases: "fused products",
+        ByInstruction: "compared with the instruction",
+        ByCLibrary: "compared with the C library",
+        NotFinite: "with an operand that is NaN or infinite",
+        Overflows: "overflows",
+        Largest: "answers of the largest float",
+        SmallestNormal: "answers of the smallest normal float",
+        Subnormal: "subnormal answers",
+        PlusZero: "answers of +0",
+        MinusZero: "answers of -0",
+        Vanished: "answers of 0 for a sum that is not 0",
+        Ties: "ties",
+        Beside: "sums beside a middle",
+        Cancelled: "sums that cancel",
+        Settled: "sums settled by the small term",
+        /// By fusing in f64 and narrowing.
+        TwiceRounded: "sums that f64 would round twice, to another float",
     }
 }
+
+type Seen = Tally<Fused>;
 
 impl Seen {
     /// Compares one case with every judge.
@@ -157,29 +129,29 @@ impl Seen {
             );
         }
 
-        self.cases += 1;
-        self.by_instruction += u64::from(instruction.is_some());
-        self.by_c_library += u64::from(c_library.is_some());
-        self.not_finite += u64::from(!finite);
-        self.overflows += u64::from(finite && port.is_none());
-        self.ties += u64::from(exact.place == Place::Middle);
-        self.beside += u64::from(exact.place == Place::Beside);
-        self.cancelled += u64::from(exact.cancelled);
-        self.settled += u64::from(exact.settled);
+        self[Fused::Cases] += 1;
+        self.count(Fused::ByInstruction, instruction.is_some());
+        self.count(Fused::ByCLibrary, c_library.is_some());
+        self.count(Fused::NotFinite, !finite);
+        self.count(Fused::Overflows, finite && port.is_none());
+        self.count(Fused::Ties, exact.place == Place::Middle);
+        self.count(Fused::Beside, exact.place == Place::Beside);
+        self.count(Fused::Cancelled, exact.cancelled);
+        self.count(Fused::Settled, exact.settled);
         let Some(bits) = port else { return };
         match bits & 0x7fff_ffff {
             0 => {
-                self.plus_zero += u64::from(bits == 0);
-                self.minus_zero += u64::from(bits != 0);
-                self.vanished += u64::from(exact.place != Place::Float);
+                self.count(Fused::PlusZero, bits == 0);
+                self.count(Fused::MinusZero, bits != 0);
+                self.count(Fused::Vanished, exact.place != Place::Float);
             }
-            1..=0x007f_ffff => self.subnormal += 1,
-            0x0080_0000 => self.smallest_normal += 1,
-            0x7f7f_ffff => self.largest += 1,
+            1..=0x007f_ffff => self[Fused::Subnormal] += 1,
+            0x0080_0000 => self[Fused::SmallestNormal] += 1,
+            0x7f7f_ffff => self[Fused::Largest] += 1,
             _ => {}
         }
         let narrowed = (f64::from(x) * f64::from(y) + f64::from(z)) as f32;
-        self.twice_rounded += u64::from(narrowed.to_bits() != bits);
+        self.count(Fused::TwiceRounded, narrowed.to_bits() != bits);
     }
 
     fn family(family: Family, seed: u64, cases: u64) -> Seen {
@@ -192,67 +164,65 @@ impl Seen {
 
     /// Fails unless every case was compared, and the family was what it is for.
     fn assert_full(&self, family: Family, cases: u64) {
-        println!("{family:?}: {self:?}");
-        assert_eq!(self.cases, cases, "{family:?}");
+        self.say(&format!("fused, {family:?}"));
+        assert_eq!(self[Fused::Cases], cases, "{family:?}");
         let all_or_none = |judge: bool| if judge { cases } else { 0 };
         let instruction = by_instruction(1.0, 1.0, 1.0).is_some();
-        assert_eq!(self.by_instruction, all_or_none(instruction), "{family:?}");
+        assert_eq!(
+            self[Fused::ByInstruction],
+            all_or_none(instruction),
+            "{family:?}"
+        );
         let c_library = C_LIBRARY.is_some();
-        assert_eq!(self.by_c_library, all_or_none(c_library), "{family:?}");
+        assert_eq!(
+            self[Fused::ByCLibrary],
+            all_or_none(c_library),
+            "{family:?}"
+        );
         // Each count with n: at least one case in n must be like that.
         let wanted: &[(u64, u64)] = match family {
-            Family::Bits => &[(self.not_finite, 100), (self.overflows, 100)],
-            Family::Overlap => &[(self.ties, 1_000), (self.beside, 1_000)],
-            Family::Ties => &[(self.ties, 8), (self.beside, 8), (self.subnormal, 8)],
+            Family::Bits => &[(self[Fused::NotFinite], 100), (self[Fused::Overflows], 100)],
+            Family::Overlap => &[(self[Fused::Ties], 1_000), (self[Fused::Beside], 1_000)],
+            Family::Ties => &[
+                (self[Fused::Ties], 8),
+                (self[Fused::Beside], 8),
+                (self[Fused::Subnormal], 8),
+            ],
             Family::Cancel => &[
-                (self.cancelled, 2),
-                (self.plus_zero, 100),
-                (self.subnormal, 1_000),
+                (self[Fused::Cancelled], 2),
+                (self[Fused::PlusZero], 100),
+                (self[Fused::Subnormal], 1_000),
             ],
             Family::Apart => &[
-                (self.settled, 16),
-                (self.beside, 8),
-                (self.twice_rounded, 50),
+                (self[Fused::Settled], 16),
+                (self[Fused::Beside], 8),
+                (self[Fused::TwiceRounded], 50),
             ],
             Family::Subnormal => &[
-                (self.subnormal, 4),
-                (self.smallest_normal, 100),
-                (self.vanished, 100),
-                (self.ties, 16),
+                (self[Fused::Subnormal], 4),
+                (self[Fused::SmallestNormal], 100),
+                (self[Fused::Vanished], 100),
+                (self[Fused::Ties], 16),
             ],
             Family::Overflow => &[
-                (self.overflows, 8),
-                (self.largest, 8),
-                (self.ties, 16),
-                (self.settled, 16),
-                (cases - self.overflows, 4),
+                (self[Fused::Overflows], 8),
+                (self[Fused::Largest], 8),
+                (self[Fused::Ties], 16),
+                (self[Fused::Settled], 16),
+                (cases - self[Fused::Overflows], 4),
             ],
             Family::Zeros => &[
-                (self.plus_zero, 8),
-                (self.minus_zero, 8),
-                (self.vanished, 8),
+                (self[Fused::PlusZero], 8),
+                (self[Fused::MinusZero], 8),
+                (self[Fused::Vanished], 8),
             ],
         };
         for &(count, n) in wanted {
             assert!(
                 n * count >= cases,
-                "{family:?} misses its point, {count}: {self:?}"
+                "{family:?} misses its point, {count}: {self}"
             );
         }
-    }
-
-    fn line(&self) -> String {
-        format!(
-            "{} compared, {} of them with the instruction and {} with the C library too: {} without a number ({} by overflow), {} subnormal, \
-             {} ties, 0 differences",
-            self.cases,
-            self.by_instruction,
-            self.by_c_library,
-            self.not_finite + self.overflows,
-            self.overflows,
-            self.subnormal,
-            self.ties
-        )
     }
 }
 
@@ -338,24 +308,22 @@ fn fused_special() {
             }
         }
     }
-    println!("{seen:?}");
-    assert_eq!(seen.cases, 60 * 60 * 60);
+    seen.say("fused, special");
+    assert_eq!(seen[Fused::Cases], 60 * 60 * 60);
     // 48 of the 60 patterns are finite.
-    assert_eq!(seen.not_finite, 60 * 60 * 60 - 48 * 48 * 48);
-    for count in [
-        seen.overflows,
-        seen.subnormal,
-        seen.plus_zero,
-        seen.minus_zero,
-        seen.vanished,
-        seen.ties,
-        seen.beside,
-        seen.cancelled,
-        seen.settled,
-        seen.twice_rounded,
-    ] {
-        assert!(count > 0, "{seen:?}");
-    }
+    assert_eq!(seen[Fused::NotFinite], 60 * 60 * 60 - 48 * 48 * 48);
+    seen.assert_met(&[
+        Fused::Overflows,
+        Fused::Subnormal,
+        Fused::PlusZero,
+        Fused::MinusZero,
+        Fused::Vanished,
+        Fused::Ties,
+        Fused::Beside,
+        Fused::Cancelled,
+        Fused::Settled,
+        Fused::TwiceRounded,
+    ]);
 }
 
 /// 2^n
@@ -379,27 +347,19 @@ fn fused_examples() {
     assert_ne!(narrowed, above);
 }
 
-/// What the roots were.
-#[derive(Default, Clone, Copy, Debug)]
-struct Roots {
-    cases: u64,
-    none: u64,
-    zeros: u64,
-    /// Arguments.
-    subnormal: u64,
-    /// The answer squared is the argument.
-    whole: u64,
-}
-
-impl AddAssign for Roots {
-    fn add_assign(&mut self, other: Roots) {
-        self.cases += other.cases;
-        self.none += other.none;
-        self.zeros += other.zeros;
-        self.subnormal += other.subnormal;
-        self.whole += other.whole;
+counts! {
+    /// What the roots were.
+    Root {
+        Cases: "roots",
+        None: "without a number",
+        Zeros: "roots of zeros",
+        Subnormal: "roots of subnormals",
+        /// The answer squared is the argument.
+        Whole: "exact roots",
     }
 }
+
+type Roots = Tally<Root>;
 
 impl Roots {
     /// Compares one root with the processor's, and tests that no float is nearer.
@@ -421,19 +381,12 @@ impl Roots {
             );
         }
 
-        self.cases += 1;
-        self.none += u64::from(port.is_none());
-        self.zeros += u64::from(x == 0.0);
-        self.subnormal += u64::from(x.is_subnormal() && x > 0.0);
+        self[Root::Cases] += 1;
+        self.count(Root::None, port.is_none());
+        self.count(Root::Zeros, x == 0.0);
+        self.count(Root::Subnormal, x.is_subnormal() && x > 0.0);
         let root = f64::from(f32::from_bits(port.unwrap_or(0)));
-        self.whole += u64::from(x > 0.0 && root * root == f64::from(x));
-    }
-
-    fn line(&self) -> String {
-        format!(
-            "{} compared: {} without a number, {} subnormal arguments, {} exact, no ties (a root is never one), 0 differences",
-            self.cases, self.none, self.subnormal, self.whole
-        )
+        self.count(Root::Whole, x > 0.0 && root * root == f64::from(x));
     }
 }
 
@@ -447,9 +400,9 @@ fn roots_special() {
             sqrt_bits(bits)
         );
     }
-    assert_eq!((seen.cases, seen.zeros), (60, 2));
+    assert_eq!((seen[Root::Cases], seen[Root::Zeros]), (60, 2));
     // Those that are not finite, and the finite ones below 0.
-    assert_eq!(seen.none, 12 + 23);
+    assert_eq!(seen[Root::None], 12 + 23);
 }
 
 #[test]
@@ -464,10 +417,17 @@ fn roots_over_all_patterns() {
             refused += 1;
         }
     }
-    println!("{seen:?}");
-    assert_eq!(seen.cases, (1 << 32) / 2_053 + 1);
-    assert_eq!(refused, seen.cases - seen.none - seen.zeros);
-    assert!(seen.none > seen.cases / 2 && seen.subnormal > 4_000 && seen.whole > 0);
+    seen.say("roots over all patterns");
+    assert_eq!(seen[Root::Cases], (1 << 32) / 2_053 + 1);
+    assert_eq!(
+        refused,
+        seen[Root::Cases] - seen[Root::None] - seen[Root::Zeros]
+    );
+    assert!(
+        seen[Root::None] > seen[Root::Cases] / 2
+            && seen[Root::Subnormal] > 4_000
+            && seen[Root::Whole] > 0
+    );
 }
 
 #[test]
@@ -486,11 +446,12 @@ fn roots_of_squares() {
             }
         }
     }
-    println!("{squares:?}, {beside:?}");
-    assert!(squares.cases > 400_000 && squares.subnormal > 4_000);
-    assert_eq!(squares.whole, squares.cases);
-    assert_eq!(beside.cases, 4 * squares.cases);
-    assert!(beside.whole < beside.cases / 100);
+    squares.say("roots of squares");
+    beside.say("roots beside squares");
+    assert!(squares[Root::Cases] > 400_000 && squares[Root::Subnormal] > 4_000);
+    assert_eq!(squares[Root::Whole], squares[Root::Cases]);
+    assert_eq!(beside[Root::Cases], 4 * squares[Root::Cases]);
+    assert!(beside[Root::Whole] < beside[Root::Cases] / 100);
 }
 
 #[test]
@@ -499,9 +460,9 @@ fn roots_of_subnormals() {
     (1..0x0080_0000)
         .filter(|bits| bits % 31 == 1 || *bits < 5_000 || *bits > 0x007f_f000)
         .for_each(|bits| seen.compare(bits));
-    println!("{seen:?}");
-    assert!(seen.cases > 270_000);
-    assert_eq!(seen.subnormal, seen.cases);
+    seen.say("roots of subnormals");
+    assert!(seen[Root::Cases] > 270_000);
+    assert_eq!(seen[Root::Subnormal], seen[Root::Cases]);
 }
 
 /// The thresholds as the port's source has them: entry k is the least float that scores k.
@@ -522,23 +483,17 @@ fn thresholds() -> Vec<f32> {
     table
 }
 
-/// What the scores were.
-#[derive(Default, Clone, Copy, Debug)]
-struct Scores {
-    cases: u64,
-    none: u64,
-    full: u64,
-    between: u64,
-}
-
-impl AddAssign for Scores {
-    fn add_assign(&mut self, other: Scores) {
-        self.cases += other.cases;
-        self.none += other.none;
-        self.full += other.full;
-        self.between += other.between;
+counts! {
+    /// What the scores were.
+    Score {
+        Cases: "scores",
+        None: "scores of 0",
+        Full: "scores of 1,024",
+        Between: "scores between",
     }
 }
+
+type Scores = Tally<Score>;
 
 impl Scores {
     /// NaN is above no threshold.
@@ -550,11 +505,11 @@ impl Scores {
             port == expected,
             "score of {bits:#010x}: the port {port}, the table {expected}"
         );
-        self.cases += 1;
+        self[Score::Cases] += 1;
         match port {
-            0 => self.none += 1,
-            1_024 => self.full += 1,
-            _ => self.between += 1,
+            0 => self[Score::None] += 1,
+            1_024 => self[Score::Full] += 1,
+            _ => self[Score::Between] += 1,
         }
     }
 }
@@ -566,8 +521,8 @@ fn scores() {
     (0x3f80_0000..=0x4120_0000)
         .step_by(1_021)
         .for_each(|bits| seen.compare(&table, bits));
-    assert_eq!(seen.cases, 0x01a0_0000 / 1_021 + 1);
-    assert!(seen.between > 26_000);
+    assert_eq!(seen[Score::Cases], 0x01a0_0000 / 1_021 + 1);
+    assert!(seen[Score::Between] > 26_000);
     for least in &table {
         for off in [-1, 0, 1] {
             seen.compare(&table, least.to_bits().saturating_add_signed(off));
@@ -577,24 +532,12 @@ fn scores() {
     (0..=u32::MAX)
         .step_by(65_537)
         .for_each(|bits| seen.compare(&table, bits));
-    println!("{seen:?}");
+    seen.say("scores");
     assert_eq!(
-        seen.cases,
+        seen[Score::Cases],
         0x01a0_0000 / 1_021 + 1 + 3 * 1_025 + 60 + 65_535 + 1
     );
-    assert!(seen.none > 40_000 && seen.full > 10_000);
-}
-
-/// Tallies by family.
-#[derive(Default)]
-struct Families([Seen; Family::ALL.len()]);
-
-impl AddAssign for Families {
-    fn add_assign(&mut self, other: Families) {
-        for (seen, other) in self.0.iter_mut().zip(other.0) {
-            *seen += other;
-        }
-    }
+    assert!(seen[Score::None] > 40_000 && seen[Score::Full] > 10_000);
 }
 
 #[test]
@@ -603,24 +546,21 @@ fn long_fused() {
     const BLOCK: u64 = 1 << 16;
     const BLOCKS: u64 = 1_000;
     let families = Family::ALL.len() as u64;
-    let (tallies, time) = long(
+    let (seen, time) = long(
         "fused",
         families * BLOCKS,
-        |tallies: &mut Families, block| {
+        |seen: &mut Each<Fused, { Family::ALL.len() }>, block| {
             let family = (block % families) as usize;
             // Seeds other than the ordinary run's.
-            tallies.0[family] +=
-                Seen::family(Family::ALL[family], Random::new(block).word(), BLOCK);
+            seen.0[family] += &Seen::family(Family::ALL[family], Random::new(block).word(), BLOCK);
         },
     );
-    let mut all = Seen::default();
-    for (family, seen) in Family::ALL.into_iter().zip(tallies.0) {
+    for (family, seen) in Family::ALL.into_iter().zip(&seen.0) {
         seen.assert_full(family, BLOCKS * BLOCK);
-        eprintln!("fused, {family:?}: {}", seen.line());
-        all += seen;
     }
-    assert!(all.cases >= 200_000_000);
-    eprintln!("fused: {}; {:.0} s", all.line(), time.as_secs_f64());
+    let all = seen.all();
+    assert!(all[Fused::Cases] >= 200_000_000);
+    all.say_after("fused", time);
 }
 
 #[test]
@@ -630,11 +570,11 @@ fn long_roots() {
     let (seen, time) = long("roots", 1 << 12, |seen: &mut Roots, block| {
         (block * BLOCK..(block + 1) * BLOCK).for_each(|bits| seen.compare(bits as u32));
     });
-    assert_eq!(seen.cases, 1 << 32);
+    assert_eq!(seen[Root::Cases], 1 << 32);
     // The finite patterns that are not negative, and -0, have a root.
-    assert_eq!(seen.none, (1 << 32) - 0x7f80_0000 - 1);
-    assert_eq!((seen.zeros, seen.subnormal), (2, 0x7f_ffff));
-    eprintln!("roots: {}; {:.0} s", seen.line(), time.as_secs_f64());
+    assert_eq!(seen[Root::None], (1 << 32) - 0x7f80_0000 - 1);
+    assert_eq!((seen[Root::Zeros], seen[Root::Subnormal]), (2, 0x7f_ffff));
+    seen.say_after("roots", time);
 }
 
 #[test]
@@ -652,14 +592,7 @@ fn long_scores() {
     let rest = (0..1u64 << 32)
         .step_by(97)
         .filter(|bits| !every.contains(bits));
-    assert_eq!(seen.cases, 44_040_193 + rest.count() as u64);
-    assert!(seen.between > 27_000_000);
-    eprintln!(
-        "scores: {} compared: {} of 0, {} of 1,024, {} between, 0 differences; {:.0} s",
-        seen.cases,
-        seen.none,
-        seen.full,
-        seen.between,
-        time.as_secs_f64()
-    );
+    assert_eq!(seen[Score::Cases], 44_040_193 + rest.count() as u64);
+    assert!(seen[Score::Between] > 27_000_000);
+    seen.say_after("scores", time);
 }

@@ -1,24 +1,17 @@
 //! The compiled checks of the settings, and the numbers that follow from them, against the original's `validate`, `frame_length_samples` and
 //! `hop_length_samples`, and against the original's expressions for what it keeps to itself.
 //!
-//! The long run: `tools/host test --release --test settings -- --ignored --nocapture`.
+//! The long run: `tools/host test --release --test all -- --ignored --nocapture settings::`.
 
-#[path = "common/choose.rs"]
-mod choose;
-#[path = "common/detector_for_original.rs"]
-mod detector_for_original;
-#[path = "common/long.rs"]
-mod long;
-#[path = "common/random.rs"]
-mod random;
-
-use std::ops::AddAssign;
 use std::time::Duration;
 
-use detector_for_original::{for_original, padding_samples, warmup_frames};
 use fallowcart::{VadConfig, raw};
-use long::long;
-use random::Random;
+
+use crate::common::for_original::ForOriginal;
+use crate::common::long::long;
+use crate::common::original::{padding_samples, warmup_frames};
+use crate::common::random::Random;
+use crate::common::tally::{Each, Tally, counts};
 
 const SECOND: u64 = 1_000_000_000;
 
@@ -53,28 +46,22 @@ fn time_of_sample(stream_start_time: u64, sample_rate: u32, sample: u64) -> u128
     u128::from(stream_start_time) + nanos
 }
 
-/// What the settings were.
-#[derive(Default, Clone, Copy, Debug)]
-struct Seen {
-    /// By the port's refusal.
-    met: [u64; 14],
-    /// Refused by the port, and not by the original.
-    narrower: [u64; 14],
-}
-
-impl AddAssign for Seen {
-    fn add_assign(&mut self, other: Seen) {
-        for n in 0..14 {
-            self.met[n] += other.met[n];
-            self.narrower[n] += other.narrower[n];
-        }
+counts! {
+    /// Settings with one refusal, or accepted.
+    Met {
+        Settings: "settings",
+        /// By the port alone.
+        Narrower: "that the port refuses and the original accepts",
     }
 }
+
+/// By the port's refusal, 0 to 13.
+type Seen = Each<Met, 14>;
 
 impl Seen {
     /// Compares one configuration, and what follows from it where it is accepted.
     fn compare(&mut self, config: &VadConfig, sample: u64) {
-        let original = for_original(config);
+        let original = config.for_original();
         let refused = original_refusal(&original);
         let port = config
             .validate()
@@ -107,8 +94,9 @@ impl Seen {
             }
         };
         assert_eq!(port, expected, "{config:?}");
-        self.met[port as usize] += 1;
-        self.narrower[port as usize] += u64::from(port != 0 && refused == 0);
+        let seen = &mut self.0[port as usize];
+        seen[Met::Settings] += 1;
+        seen.count(Met::Narrower, port != 0 && refused == 0);
 
         if port != 0 {
             assert!(config.frame_length_samples().is_err() && config.padding_samples().is_err());
@@ -151,42 +139,29 @@ impl Seen {
 
     /// Fails unless each number was met, the narrower domain's by settings that the original accepts.
     fn assert_full(&self, cases: u64) {
-        assert_eq!(self.met.iter().sum::<u64>(), cases);
-        assert!(
-            self.met.iter().all(|&count| 1_000 * count > cases),
-            "{self:?}"
-        );
-        for (number, &count) in self.narrower.iter().enumerate() {
-            let allowed = matches!(number, 1 | 2 | 11 | 12 | 13);
-            assert_eq!(1_000 * count > cases, allowed, "{number}: {self:?}");
-            assert!(allowed || count == 0, "{number}: {self:?}");
+        assert_eq!(self.all()[Met::Settings], cases);
+        for (number, seen) in self.0.iter().enumerate() {
+            assert!(1_000 * seen[Met::Settings] > cases, "{number}: {seen}");
+            let (narrower, allowed) = (seen[Met::Narrower], matches!(number, 1 | 2 | 11..=13));
+            assert_eq!(1_000 * narrower > cases, allowed, "{number}: {seen}");
+            assert!(allowed || narrower == 0, "{number}: {seen}");
+            match number {
+                0 => seen.say("settings, accepted"),
+                _ => seen.say(&format!("settings, refused by {number}")),
+            }
         }
-    }
-
-    fn line(&self) -> String {
-        format!(
-            "{} compared, {} accepted; by refusal 1 to 13 {:?}, of which the original accepts {:?}; 0 differences",
-            self.met.iter().sum::<u64>(),
-            self.met[0],
-            &self.met[1..],
-            &self.narrower[1..]
-        )
     }
 }
 
 impl Random {
-    fn fraction(&mut self) -> f32 {
-        (self.word() >> 40) as f32 / 16_777_216.0
-    }
-
     /// Numbers that some setting has a limit at, those beside them, and any.
-    fn float(&mut self) -> f32 {
+    fn limit(&mut self) -> f32 {
         let size = match self.within(0, 5) {
             0 => self.pick(&[0.0, f32::from_bits(1), f32::MIN_POSITIVE, f32::MAX]),
             1 => self.pick(&[1.0, 1f32.next_down(), 1f32.next_up()]),
             2 => self.pick(&[f32::NAN, f32::INFINITY]),
             3 => f32::from_bits(self.word() as u32),
-            _ => self.fraction(),
+            _ => self.share(),
         };
         if self.one_in(4) { -size } else { size }
     }
@@ -250,20 +225,20 @@ impl Random {
     /// Settings that are accepted, mostly, and then up to three changes.
     fn settings(&mut self) -> VadConfig {
         let rate = self.rate();
-        let release = 1.0 + 3.0 * self.fraction();
+        let release = 1.0 + 3.0 * self.share();
         let mut config = VadConfig {
             sample_rate: rate,
             frame_duration: match self.within(0, 1) {
                 0 => Duration::from_nanos(2_000_000 + self.word() % 40_000_000),
                 _ => self.half_sample(rate),
             },
-            frame_overlap: self.fraction() * 0.9,
-            pre_emphasis: self.one_in(2).then(|| self.fraction()),
-            activation_ratio: release + self.fraction(),
+            frame_overlap: self.share() * 0.9,
+            pre_emphasis: self.one_in(2).then(|| self.share()),
+            activation_ratio: release + self.share(),
             release_ratio: release,
-            min_speech_energy: self.fraction(),
-            noise_smoothing: self.fraction(),
-            energy_floor: self.fraction() + 1e-9,
+            min_speech_energy: self.share(),
+            noise_smoothing: self.share(),
+            energy_floor: self.share() + 1e-9,
             hangover_frames: self.within(0, 10_000) as usize,
             speech_padding: Duration::from_nanos(self.word() % (SECOND + 1)),
             min_speech_frames: self.within(1, 10_000) as usize,
@@ -277,18 +252,18 @@ impl Random {
                 1 => config.sample_rate = self.word() as u32 >> self.within(0, 31),
                 2 => config.frame_duration = self.duration(),
                 3 => config.frame_duration = self.longest_frame(rate),
-                4 => config.frame_overlap = self.float(),
-                5 => config.pre_emphasis = Some(self.float()),
+                4 => config.frame_overlap = self.limit(),
+                5 => config.pre_emphasis = Some(self.limit()),
                 6 => {
                     let release = config.release_ratio;
                     config.activation_ratio =
                         self.pick(&[release, release.next_down(), release.next_up()]);
                 }
-                7 => config.activation_ratio = self.float(),
-                8 => config.release_ratio = self.float(),
-                9 => config.min_speech_energy = self.float(),
-                10 => config.noise_smoothing = self.float(),
-                11 => config.energy_floor = self.float(),
+                7 => config.activation_ratio = self.limit(),
+                8 => config.release_ratio = self.limit(),
+                9 => config.min_speech_energy = self.limit(),
+                10 => config.noise_smoothing = self.limit(),
+                11 => config.energy_floor = self.limit(),
                 12 => config.hangover_frames = self.count(),
                 13 => config.min_speech_frames = self.count(),
                 _ => match self.within(0, 1) {
@@ -305,14 +280,14 @@ impl Random {
 fn settings() {
     const CASES: u64 = 1_000_000;
     let seen = Seen::run(0, CASES);
-    println!("settings: {}", seen.line());
     seen.assert_full(CASES);
+    seen.all().say("settings");
 }
 
 #[test]
 fn the_defaults_are_the_originals() {
     let (ours, original) = (
-        for_original(&VadConfig::default()),
+        VadConfig::default().for_original(),
         speech_prep::VadConfig::default(),
     );
     assert_eq!(format!("{ours:?}"), format!("{original:?}"));
@@ -455,23 +430,12 @@ fn limits() {
 #[test]
 fn an_absent_pre_emphasis_is_not_looked_at() {
     for pre_emphasis in [0.0, 0.97, 1.0, -1.0, f32::NAN, f32::INFINITY] {
-        let refusal = |present| {
-            raw::settings_refusal(
-                16_000,
-                20_000_000,
-                0.5,
-                present,
+        let refusal = |has_pre_emphasis| {
+            raw::settings_refusal(&raw::Settings {
+                has_pre_emphasis,
                 pre_emphasis,
-                2.5,
-                1.3,
-                0.0005,
-                0.85,
-                1e-4,
-                20,
-                50_000_000,
-                3,
-                0,
-            )
+                ..VadConfig::default().into()
+            })
         };
         assert_eq!(refusal(false), 0, "{pre_emphasis}");
         let inside = (0.0..1.0).contains(&pre_emphasis);
@@ -526,7 +490,7 @@ fn hops(random: &mut Random) -> bool {
             let hop = (random.word() % u64::from(length)) as f32 + 0.5;
             (1.0 - hop / length as f32).clamp(0.0, 1f32.next_down())
         }
-        _ => random.fraction(),
+        _ => random.share(),
     };
     let config = speech_prep::VadConfig {
         sample_rate: length,
@@ -563,19 +527,25 @@ fn warmups(random: &mut Random) {
     same_warmup(hop as u32, rate);
 }
 
+counts! {
+    Whole {
+        Warmups: "warm-ups that are whole numbers of hops",
+    }
+}
+
 /// Every rate and hop of which 0.3 s is a whole number. There a quotient that is a hair above would be rounded up; in f64 none is.
 #[test]
 fn whole_warmups() {
-    let mut cases = 0;
+    let mut seen = Tally::default();
     for rate in (8_000..=48_000u32).step_by(10) {
         let samples = rate / 10 * 3;
         for hop in (1..=samples).filter(|&hop| samples.is_multiple_of(hop)) {
             assert_eq!(same_warmup(hop, rate), u64::from(samples / hop));
-            cases += 1;
+            seen[Whole::Warmups] += 1;
         }
     }
-    println!("{cases} warm-ups are whole numbers of hops");
-    assert!(cases > 60_000);
+    seen.say("warm-ups");
+    assert!(seen[Whole::Warmups] > 60_000);
 }
 
 /// Paddings up to a second, exact half samples among them. Whether exact numbers would make it another.
@@ -621,21 +591,16 @@ fn times(random: &mut Random) {
     assert_eq!(raw::time_of_sample(start, wrong_rate, sample), 0);
 }
 
-/// How many numbers of each kind were compared, and how many of them another arithmetic would make another.
-#[derive(Default, Clone, Copy, Debug)]
-struct Numbers {
-    cases: u64,
-    hops: u64,
-    paddings: u64,
-}
-
-impl AddAssign for Numbers {
-    fn add_assign(&mut self, other: Numbers) {
-        self.cases += other.cases;
-        self.hops += other.hops;
-        self.paddings += other.paddings;
+counts! {
+    /// Numbers that follow from settings.
+    Followed {
+        Cases: "frame lengths, times, warm-ups, hops and paddings each",
+        Hops: "hops that f64 would make another",
+        Paddings: "paddings that exact numbers would make another",
     }
 }
+
+type Numbers = Tally<Followed>;
 
 impl Numbers {
     fn run(seed: u64, cases: u64) -> Numbers {
@@ -644,24 +609,20 @@ impl Numbers {
             frame_lengths(&mut random);
             times(&mut random);
             warmups(&mut random);
-            numbers.hops += u64::from(hops(&mut random));
-            numbers.paddings += u64::from(paddings(&mut random));
-            numbers.cases += 1;
+            numbers.count(Followed::Hops, hops(&mut random));
+            numbers.count(Followed::Paddings, paddings(&mut random));
+            numbers[Followed::Cases] += 1;
         }
         numbers
     }
 
     /// Fails unless some of the roundings were such that only the original's arithmetic gives them.
     fn assert_full(&self, cases: u64) {
-        assert_eq!(self.cases, cases);
-        assert!(self.hops > 20 && self.paddings > 20, "{self:?}");
-    }
-
-    fn line(&self) -> String {
-        format!(
-            "{} frame lengths, times, warm-ups, hops and paddings each compared; f64 would make {} hops another, and exact numbers {} paddings; 0 differences",
-            self.cases, self.hops, self.paddings
-        )
+        assert_eq!(self[Followed::Cases], cases);
+        assert!(
+            self[Followed::Hops] > 20 && self[Followed::Paddings] > 20,
+            "{self}"
+        );
     }
 }
 
@@ -669,7 +630,7 @@ impl Numbers {
 fn numbers() {
     const CASES: u64 = 500_000;
     let numbers = Numbers::run(1, CASES);
-    println!("numbers: {}", numbers.line());
+    numbers.say("numbers");
     numbers.assert_full(CASES);
 }
 
@@ -680,10 +641,10 @@ fn long_settings() {
     const PARTS: u64 = 1_000;
     let (seen, time) = long("settings", PARTS, |seen: &mut Seen, part| {
         // Seeds other than the ordinary run's.
-        *seen += Seen::run(Random::new(part).word(), PART);
+        *seen += &Seen::run(Random::new(part).word(), PART);
     });
     seen.assert_full(PARTS * PART);
-    eprintln!("settings: {}; {:.0} s", seen.line(), time.as_secs_f64());
+    seen.all().say_after("settings", time);
 }
 
 #[test]
@@ -692,8 +653,8 @@ fn long_numbers() {
     const PART: u64 = 1 << 16;
     const PARTS: u64 = 1_000;
     let (numbers, time) = long("numbers", PARTS, |numbers: &mut Numbers, part| {
-        *numbers += Numbers::run(Random::new(part).word(), PART);
+        *numbers += &Numbers::run(Random::new(part).word(), PART);
     });
     numbers.assert_full(PARTS * PART);
-    eprintln!("numbers: {}; {:.0} s", numbers.line(), time.as_secs_f64());
+    numbers.say_after("numbers", time);
 }

@@ -2,11 +2,18 @@
 //! computes the same answers from the definitions; here the original is run again and held to the lists in that file. A frame's energy is
 //! private in the original, but with no smoothing and a gate that nothing reaches the noise floor after a call of one frame is that energy.
 
+mod common;
+
+use common::ROW_FIELDS;
 use speech_prep::probe::{Answer, Probe};
 use speech_prep::{AudioDuration, VadConfig};
 
-const FRAMES: &str = include_str!("../../crates/vad_runs/specs/Frames.antt");
-const SEGMENTS: &str = include_str!("../../crates/vad_runs/specs/Segments.antt");
+const FRAMES: &str = include_str!("../../crates/vad_runs/proofs/Frames.antt");
+const SEGMENTS: &str = include_str!("../../crates/vad_runs/proofs/Segments.antt");
+
+/// Where a row has its score total and its loud frames.
+const SCORE_TOTAL: usize = 4;
+const LOUD_FRAMES: usize = 5;
 
 const FRAME: usize = 16;
 const HOP: usize = 8;
@@ -205,11 +212,14 @@ fn rows_of_segments() {
         let n = ours[at + 2] as usize;
         at += 3;
         for _ in 0..n {
-            let (our, row) = (&ours[at..at + 7], &answers[at..at + 7]);
-            assert_eq!((&our[..4], &our[5..]), (&row[..4], &row[5..]), "at {at}");
-            let distance = our[4].abs_diff(row[4]) as f64 / (1024 * row[5]) as f64;
-            assert!(distance <= 0.002, "at {at}: {} and {}", our[4], row[4]);
-            at += 7;
+            let (our, row) = (&ours[at..][..ROW_FIELDS], &answers[at..][..ROW_FIELDS]);
+            for n in (0..ROW_FIELDS).filter(|&n| n != SCORE_TOTAL) {
+                assert_eq!(our[n], row[n], "at {}", at + n);
+            }
+            let [our_score, score] = [our, row].map(|fields| fields[SCORE_TOTAL]);
+            let distance = our_score.abs_diff(score) as f64 / (1024 * row[LOUD_FRAMES]) as f64;
+            assert!(distance <= 0.002, "at {at}: {our_score} and {score}");
+            at += ROW_FIELDS;
             rows += 1;
         }
     }

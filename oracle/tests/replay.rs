@@ -1,15 +1,17 @@
 //! What `crates/vad_replay` replays: some hundred calls, and what the original answered. The original is run again here, and the program's two files
 //! are held to it; `REPLAY_WRITE=1 cargo test --manifest-path oracle/Cargo.toml --test replay` makes them anew.
 
+mod common;
+
 use std::fmt::Write as _;
 use std::path::PathBuf;
 
+use common::ROW_FIELDS;
 use speech_prep::probe::{Answer, Probe};
 use speech_prep::{AudioDuration, AudioTimestamp, VadConfig};
 
-/// How many numbers a row has, and how many a call of the list lends at most.
-const ROW: usize = 7;
-const LENT: usize = 448;
+/// How many numbers a call of the list lends for rows at most.
+const LENT: usize = 64 * ROW_FIELDS;
 
 /// The calls as the program reads them, and the lines that it must print.
 #[derive(Default)]
@@ -91,9 +93,9 @@ impl List {
     fn heard(&mut self, block: Option<&[f32]>, probe: &Probe, answer: &Answer) {
         let rows = answer.segments.len();
         if rows > 0 {
-            self.refused(block, rows * ROW - 1, 18, rows);
+            self.refused(block, rows * ROW_FIELDS - 1, 18, rows);
         }
-        self.call(block, if rows == 0 { 0 } else { LENT.min(rows * ROW) });
+        self.call(block, LENT.min(rows * ROW_FIELDS));
         let open = probe
             .open_start()
             .map_or("-".into(), |start| start.to_string());
@@ -229,13 +231,13 @@ fn rules(list: &mut List) {
     };
     let ms = AudioDuration::from_millis;
     let changed = |change: fn(&mut VadConfig)| {
-        let mut config = plain.clone();
+        let mut config = plain;
         change(&mut config);
         config
     };
     for (config, run) in [
         // The ratios: between them nothing begins, and what is open goes on.
-        (plain.clone(), "..---..#--..."),
+        (plain, "..---..#--..."),
         // A silence run of the hangover stays, one more closes; hangover frames do not move the end.
         (changed(|c| c.hangover_frames = 0), "..#.##..#.."),
         (changed(|c| c.hangover_frames = 2), "..#..#...#...."),
@@ -263,11 +265,11 @@ fn rules(list: &mut List) {
         (changed(|c| c.release_ratio = 1.0), "..#-.-....#..."),
         (changed(|c| c.activation_ratio = 2.0), "..-.--..#..."),
         // Flush in speech, in a pause and in silence, detect after it, and a reset.
-        (plain.clone(), "..#f#.f.f##r..#..#f"),
+        (plain, "..#f#.f.f##r..#..#f"),
         // Pre-emphasis over the block's edge.
         (changed(|c| c.pre_emphasis = Some(0.5)), "..##-..#..."),
     ] {
-        let mut probe = open(list, config.clone());
+        let mut probe = open(list, config);
         list.flush(&probe);
         let mut at = 0;
         for call in run.chars() {
@@ -358,7 +360,7 @@ fn runs() -> List {
         min_speech_frames: 1,
         ..settings()
     };
-    let probe = open(&mut list, short.clone());
+    let probe = open(&mut list, short);
     blocks(&mut list, &probe, 0, 4_100, &[1_000]);
     blocks(&mut list, &probe, 4_100, 6_000, &[13, 640]);
     list.flush(&probe);

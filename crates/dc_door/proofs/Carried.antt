@@ -15,6 +15,7 @@ use Rattle.float.specs.Fused.{fusedOf}
 use Rattle.float.specs.declared.Rounded.{Rounded}
 use Rattle.float.specs.declared.Rounded.the-variants.{Finite, Nothing}
 use Rattle.float.proofs.Bounds.{fused-fits}
+use Rattle.lists.proofs.Tests.{either}
 use Rattle.dc_state.specs.Biquad.{orNan, outputOf, nextOf, stepped}
 use Rattle.dc_state.specs.Settings.{soundOf, refusalOf}
 use Rattle.dc_state.specs.Operations.{centredOf}
@@ -23,7 +24,7 @@ use Rattle.dc_state.specs.declared.HighpassOrder.{HighpassOrder}
 use Rattle.dc_state.specs.declared.HighpassOrder.the-variants.{SecondOrder, FourthOrder}
 use Rattle.dc_state.specs.declared.PreprocessingConfig.{PreprocessingConfig}
 use Rattle.dc_state.specs.declared.DcHighPassFilter.{DcHighPassFilter}
-use Rattle.dc_highpass.specs.Filter.{coefficientsOf, still, freshOf, nothingOpen, openOf, isEmpty, listens, biasOf, biasedOf, stagedBy, passOf, resultsOf, afterOf, checkOf, ranOf, refused, processOf, resetOf}
+use Rattle.dc_highpass.specs.Filter.{coefficientsOf, still, freshOf, nothingOpen, openOf, isEmpty, listens, biasOf, biasedOf, stagedBy, passOf, afterOf, checkOf, stopOf, ranOf, processOf, resetOf}
 use Rattle.dc_highpass.specs.declared.VadContext.{VadContext}
 use Rattle.dc_highpass.specs.declared.Opened.{Opened}
 use Rattle.dc_highpass.specs.declared.Processed.{Processed}
@@ -42,10 +43,6 @@ allFit (x ∷ xs) = fits binary32 x && allFit xs
 orNan-fit : (x y z : Float) (r : Rounded) → fusedOf x y z ≡ r → Fit (orNan r)
 orNan-fit x y z (Finite v) p = fused-fits x y z v p
 orNan-fit x y z Nothing p = nan-fits binary32
-
-either : (t : Bool) (f g : DcHighPassFilter) → FilterFits f → FilterFits g → FilterFits (cond t f g)
-either true f g h k = h
-either false f g h k = k
 
 output-fit : (b : Biquad) (x : Float) → Fit (outputOf (b .coeffs) (b .state) x)
 unfolding outputOf
@@ -72,14 +69,10 @@ centred-fit : (f : DcHighPassFilter) (x : Float) → Fit x → Fit (centredOf f 
 unfolding centredOf
 centred-fit f x h = cond-fits binary32 (f .config .«enable_dc_removal») _ _ (sub-fits binary32 x (f .«dc_bias»)) h
 
-one-of : (t : Bool) (p q : Passed) → FilterFits (p .filter) → FilterFits (q .filter) → FilterFits (cond t p q .filter)
-one-of true p q h k = h
-one-of false p q h k = k
-
 pass-fits : (f : DcHighPassFilter) (x : Float) → FilterFits f → Fit x → FilterFits (passOf f x .filter)
 unfolding passOf
 pass-fits f x h k =
-    one-of (f .config .«enable_highpass») (stagedBy (f .config .«highpass_order») f (centredOf f x)) (record { filter = f; output = centredOf f x })
+    either (λ (p : Passed). FilterFits (p .filter)) (f .config .«enable_highpass») (stagedBy (f .config .«highpass_order») f (centredOf f x)) (record { filter = f; output = centredOf f x })
     (staged-fits (f .config .«highpass_order») f (centredOf f x) h (centred-fit f x k)) h
 
 after-fits : (xs : List Float) (f : DcHighPassFilter) → FilterFits f → T (allFit xs) → FilterFits (afterOf f xs)
@@ -87,29 +80,23 @@ unfolding afterOf allFit
 after-fits [] f h k = h
 after-fits (x ∷ xs) f h k =
     let p = pass-fits f x h (and-l (fits binary32 x) (allFit xs) k) in
-    either (finite (passOf f x .output)) (afterOf (passOf f x .filter) xs) f (after-fits xs (passOf f x .filter) p (and-r (fits binary32 x) (allFit xs) k)) h
+    either FilterFits (finite (passOf f x .output)) (afterOf (passOf f x .filter) xs) f (after-fits xs (passOf f x .filter) p (and-r (fits binary32 x) (allFit xs) k)) h
 
 biased-fits : (f : DcHighPassFilter) (xs : List Float) (label : VadContext) → FilterFits f → FilterFits (biasedOf f xs label)
 unfolding biasedOf biasOf
 biased-fits f xs label h =
-    either (f .config .«enable_dc_removal» && (not (isEmpty xs) && listens label)) _ f
+    either FilterFits (f .config .«enable_dc_removal» && (not (isEmpty xs) && listens label)) _ f
     (record { cutoff = h .cutoff; alpha = h .alpha; first = h .first; second = h .second; bias = orNan-fit _ _ _ _ refl }) h
-
-the-one : (t : Bool) (p q : Processed) → FilterFits (p .filter) → FilterFits (q .filter) → FilterFits (cond t p q .filter)
-the-one true p q h k = h
-the-one false p q h k = k
 
 module _ (f : DcHighPassFilter) (h : FilterFits f) (xs : List Float) (k : T (allFit xs)) (label : VadContext) (room : ℕ) where
   ran-fits : (g : DcHighPassFilter) → FilterFits g → FilterFits (ranOf f g xs .filter)
   unfolding ranOf
-  ran-fits g l =
-      the-one (ltb (length (resultsOf g xs)) (length xs)) (record { refusal = refused 26 (length (resultsOf g xs)); filter = f }) (record { refusal = refused 0 0; filter = afterOf g xs })
-      h (after-fits xs g l k)
+  ran-fits g l = either FilterFits (eqb (stopOf g xs .number) 0) (afterOf g xs) f (after-fits xs g l k) h
 
   process-fits : FilterFits (processOf f xs label room .filter)
   unfolding processOf
   process-fits =
-      the-one (eqb (checkOf f xs room .number) 0) (ranOf f (biasedOf f xs label) xs) (record { refusal = checkOf f xs room; filter = f })
+      either (λ (p : Processed). FilterFits (p .filter)) (eqb (checkOf f xs room .number) 0) (ranOf f (biasedOf f xs label) xs) (record { refusal = checkOf f xs room; filter = f })
       (ran-fits (biasedOf f xs label) (biased-fits f xs label h)) h
 
 fresh-fits : (f : DcHighPassFilter) → FilterFits f → FilterFits (freshOf (f .config) (f .first .coeffs) (f .second .coeffs))
@@ -126,14 +113,10 @@ fresh-fits f h =
       bias = z;
     }
 
-answered : (t : Bool) (p q : Opened) → FilterFits (p .filter) → FilterFits (q .filter) → FilterFits (cond t p q .filter)
-answered true p q h k = h
-answered false p q h k = k
-
 reset-fits : (f : DcHighPassFilter) → FilterFits f → FilterFits (resetOf f .filter)
 unfolding resetOf
 reset-fits f h =
-    answered (soundOf f) (record { refusal = 0; filter = freshOf (f .config) (f .first .coeffs) (f .second .coeffs) }) (record { refusal = 27; filter = f }) (fresh-fits f h) h
+    either (λ (p : Opened). FilterFits (p .filter)) (soundOf f) (record { refusal = 0; filter = freshOf (f .config) (f .first .coeffs) (f .second .coeffs) }) (record { refusal = 27; filter = f }) (fresh-fits f h) h
 
 -- ---- an opened filter's numbers, from the settings and the coefficients
 
@@ -178,11 +161,11 @@ module _ (c : PreprocessingConfig) (l : Fit (c .«highpass_cutoff_hz»)) (m : Fi
 
   open-fits : FilterFits (openOf c (fiveAt xs 0 ∷ fiveAt xs 5 ∷ []) .filter)
   unfolding openOf
-  open-fits = either (eqb (refusalOf c (coefficientsOf (fiveAt xs 0)) (coefficientsOf (fiveAt xs 5))) 0) _ nothingOpen new-fits none-fits
+  open-fits = either FilterFits (eqb (refusalOf c (coefficientsOf (fiveAt xs 0)) (coefficientsOf (fiveAt xs 5))) 0) _ nothingOpen new-fits none-fits
 
   opened-fits : FilterFits (openedOf c xs .filter)
   unfolding openedOf
-  opened-fits = answered (ltb (length xs) 10) (record { refusal = 24; filter = nothingOpen }) (openOf c (fiveAt xs 0 ∷ fiveAt xs 5 ∷ [])) none-fits open-fits
+  opened-fits = either (λ (p : Opened). FilterFits (p .filter)) (ltb (length xs) 10) (record { refusal = 24; filter = nothingOpen }) (openOf c (fiveAt xs 0 ∷ fiveAt xs 5 ∷ [])) none-fits open-fits
 
   -- ---- through the door
 

@@ -1,18 +1,20 @@
 -- What an entry point answers and leaves, whether its state can be read or not, over plain lists. Assumes nothing.
 use mathlib.Core.Path.{_≡_, refl, sym, ap, _∙_}
-use mathlib.Core.Bool.{Bool, true, false, _&&_, cond}
+use mathlib.Core.Bool.{Bool, true, false, cond}
 use mathlib.Core.List.{List, [], _∷_}
 use Prim.Native.Nat.{ℕ, _-_, _≤_, _<_, _^_}
 use native.Mathlib.Omega.{arith}
-use lib.Dec.{eqb}
+use lib.Dec.{leb, eqb}
 use lib.ListN.{length, take, drop, length-drop}
 use lib.Seq.{take-length}
 use lib.Ieee.{Float, binary32, ofBits, toBits, isNan}
 use borrow.Author.Tests.{leb-true, lt-ltb, le-ltb}
-use Rattle.answers.specs.Answers.{packed}
+use Rattle.lists.proofs.Tests.{both}
+use Rattle.refusals.specs.Refusals.{refusal, firstOf}
+use Rattle.refusals.specs.Answers.{packed}
 use Rattle.dc_state.specs.declared.DcHighPassFilter.{DcHighPassFilter}
 use Rattle.dc_state.specs.declared.PreprocessingConfig.{PreprocessingConfig}
-use Rattle.dc_highpass.specs.Filter.{openOf, nothingOpen, refused, checkOf, processOf, outputAfter, resetOf, biasRead}
+use Rattle.dc_highpass.specs.Filter.{openOf, nothingOpen, checkOf, processOf, outputAfter, resetOf, biasRead}
 use Rattle.dc_highpass.specs.declared.VadContext.{VadContext}
 use Rattle.dc_highpass.specs.declared.Opened.{Opened}
 use Rattle.dc_highpass.specs.declared.Processed.{Processed}
@@ -20,15 +22,12 @@ use Rattle.dc_highpass.specs.declared.Reading.{Reading}
 use Rattle.dc_highpass.proofs.Runs.{nothing-malformed}
 use Rattle.dc_door.proofs.Places.{place-small}
 use Rattle.dc_door.specs.FilterState.{filterAt, readable, written, wordOf}
-use Rattle.dc_door.specs.FilterDoor.{readOf, fiveAt, openedOf, openAnswer, openState, processAnswer, processState, processOutput, resetAnswer, resetState, biasAnswer}
-
-first : (a b : Bool) → a && b ≡ true → a ≡ true
-first true b h = refl
-first false b h = h
+use Rattle.dc_door.specs.FilterDoor.{fiveAt, openedOf, openAnswer, openState, processAnswer, processState, processOutput, resetAnswer, resetState, biasAnswer}
+use Rattle.dc_door.specs.Inside.{readOf}
 
 pub long-of : (ws : List ℕ) → readable ws ≡ true → 25 ≤ length ws
 unfolding readable
-long-of ws h = leb-true 25 (length ws) (first _ _ h)
+long-of ws h = leb-true 25 (length ws) (both (leb 25 (length ws)) _ h .0)
 
 packed-none : (n : ℕ) → packed n 0 ≡ n
 packed-none n = omega arith
@@ -130,12 +129,12 @@ module _ (ws : List ℕ) where
 
 -- ---- a block
 
-unread-block : (xs : List Float) (label : VadContext) (room : ℕ) → processOf nothingOpen xs label room ≡ record { refusal = refused 27 0; filter = nothingOpen }
-unfolding processOf checkOf
+unread-block : (xs : List Float) (label : VadContext) (room : ℕ) → processOf nothingOpen xs label room ≡ record { refusal = refusal 27 0; filter = nothingOpen }
+unfolding processOf checkOf firstOf
 unread-block xs label room = rw nothing-malformed
 
 unread-output : (xs : List Float) (label : VadContext) (out : List Float) → outputAfter nothingOpen xs label out ≡ out
-unfolding outputAfter checkOf
+unfolding outputAfter checkOf firstOf
 unread-output xs label out = rw nothing-malformed
 
 module _ (ws : List ℕ) (xs : List Float) (label : VadContext) where
@@ -148,7 +147,7 @@ module _ (ws : List ℕ) (xs : List Float) (label : VadContext) where
   output-read out new e = e ∙ output-by out (readable ws) refl
 
   module _ (room : ℕ) (p : Processed) (e : p ≡ processOf (readOf ws) xs label room) where
-    block-by : (t : Bool) → readable ws ≡ t → p ≡ cond t (processOf (filterAt ws) xs label room) (record { refusal = refused 27 0; filter = nothingOpen })
+    block-by : (t : Bool) → readable ws ≡ t → p ≡ cond t (processOf (filterAt ws) xs label room) (record { refusal = refusal 27 0; filter = nothingOpen })
     block-by true h = e ∙ ap (λ (f : DcHighPassFilter). processOf f xs label room) (sym (read-good ws h))
     block-by false h = e ∙ ap (λ (f : DcHighPassFilter). processOf f xs label room) (sym (read-bad ws h)) ∙ unread-block xs label room
 
@@ -159,10 +158,10 @@ module _ (ws : List ℕ) (xs : List Float) (label : VadContext) where
     pub block-long : p .refusal .number ≡ 0 → 25 ≤ length ws
     block-long = block-long-by (readable ws) refl
 
-    pub place-fits : p .refusal .place < 2 ^ 55
-    place-fits = let n = ap (λ (q : Processed). q .refusal .place) e in let small = place-small (readOf ws) xs label room in omega arith
+    pub place-fits : p .refusal .carries < 2 ^ 55
+    place-fits = let n = ap (λ (q : Processed). q .refusal .carries) e in let small = place-small (readOf ws) xs label room in omega arith
 
-    module _ (a : ℕ) (q : a ≡ packed (p .refusal .number) (p .refusal .place)) (new : List ℕ) (w : new ≡ cond (eqb (p .refusal .number) 0) (written (p .filter) ws) ws) where
+    module _ (a : ℕ) (q : a ≡ packed (p .refusal .number) (p .refusal .carries)) (new : List ℕ) (w : new ≡ cond (eqb (p .refusal .number) 0) (written (p .filter) ws) ws) where
       process-by : (t : Bool) → readable ws ≡ t → (a ≡ processAnswer ws xs label room) × (new ≡ processState ws xs label room)
       unfolding processAnswer processState
       process-by true h = let f = block-by true h in (q ∙ rw (h, f), w ∙ rw (h, f))

@@ -1,42 +1,26 @@
 -- Words put one after the other are a list put at once. Assumes nothing.
-use mathlib.Core.Path.{_≡_, refl, sym, _∙_}
-use mathlib.Core.Bool.{Bool, true, false}
+use mathlib.Core.Path.{_≡_, sym, _∙_}
 use mathlib.Core.List.{List, [], _∷_, map}
-use Prim.Native.Nat.{ℕ, suc, _+_, _≤_, _<_}
+use Prim.Native.Nat.{ℕ, _≤_, _<_}
 use native.Mathlib.Omega.{arith}
-use lib.ListN.{length, drop, getD, set, drop-of-length-le}
-use lib.Ieee.{Float, nan}
+use lib.ListN.{length}
+use lib.Ieee.{Float}
 use mir.Val.{boolByte}
-use lib.Seq.{sets, length-sets, drop-cons}
-use Rattle.lists.specs.Stores.{sets-cons, sets-append, sets-all}
+use lib.Seq.{sets, length-sets}
+use Rattle.lists.proofs.Stores.{sets-append, sets-all}
+use Rattle.lists.proofs.Flags.{flag-byte}
 use Rattle.dc_state.specs.declared.DcHighPassFilter.{DcHighPassFilter}
 use Rattle.dc_state.specs.declared.PreprocessingConfig.{PreprocessingConfig}
-use Rattle.dc_door.specs.FilterState.{wordOf, flagWord, orderWord, configWords, coefficientWords, memoryWords, stageWords, wordsOf, written}
+use Rattle.dc_door.specs.FilterState.{wordOf, orderWord, configWords, coefficientWords, memoryWords, stageWords, wordsOf, written}
 
 -- what was put leaves the room
 pub in-place : (l vs : List ℕ) {k : ℕ} → 25 ≤ length l → k < 25 → k < length (sets l 0 vs)
 in-place l vs h i = let long = length-sets l 0 vs in omega arith
 
--- a Bool cast to a number
-flag-byte : (b : Bool) → boolByte b ≡ flagWord b
-flag-byte true = refl
-flag-byte false = refl
-
 pub config-put : (l : List ℕ) (c : PreprocessingConfig) {x y o : ℕ} → x ≡ wordOf (c .«highpass_cutoff_hz») → y ≡ wordOf (c .«dc_bias_alpha») → o ≡ orderWord (c .«highpass_order»)
     → sets l 0 (x ∷ c .«sample_rate_hz» ∷ y ∷ boolByte (c .«enable_dc_removal») ∷ boolByte (c .«enable_highpass») ∷ o ∷ []) ≡ sets l 0 (configWords c)
 unfolding configWords
 config-put l c g h k = rw (g, h, k, flag-byte (c .«enable_dc_removal»), flag-byte (c .«enable_highpass»))
-
-module _ (l : List ℕ) (xs : List Float) (at i : ℕ) where
-  -- one turn of the loop
-  pub put-step : i < length xs → (w : ℕ) → w ≡ wordOf (getD xs i nan) → sets (set l (at + i) w) (at + (i + 1)) (map wordOf (drop (i + 1) xs)) ≡ sets l (at + i) (map wordOf (drop i xs))
-  put-step h w e =
-      let one : i + 1 ≡ suc i = omega arith in
-      let next : at + suc i ≡ at + i + 1 = omega arith in
-      rw (e, one, next, drop-cons xs i nan h) (sets-cons l (at + i) (wordOf (getD xs i nan)) (map wordOf (drop (suc i) xs)))
-
-  pub put-end : length xs ≤ i → sets l (at + i) (map wordOf (drop i xs)) ≡ l
-  put-end h = rw (drop-of-length-le xs h)
 
 -- the numbers behind the settings, in the order of the words
 abbrev numbersOf : DcHighPassFilter → List Float

@@ -1,6 +1,6 @@
 -- What the door writes is what it reads at the next call. Assumes nothing.
 use mathlib.Core.Path.{_≡_, refl}
-use mathlib.Core.Bool.{Bool, true, false, _&&_}
+use mathlib.Core.Bool.{Bool, true, _&&_}
 use mathlib.Core.List.{List, _++_}
 use Prim.Native.Nat.{ℕ}
 use native.Mathlib.Omega.{arith}
@@ -15,7 +15,9 @@ use Rattle.dc_state.specs.declared.HighpassOrder.the-variants.{SecondOrder, Fou
 use Rattle.dc_state.specs.declared.PreprocessingConfig.{PreprocessingConfig}
 use Rattle.dc_state.specs.declared.DcHighPassFilter.{DcHighPassFilter}
 use Rattle.dc_highpass.specs.Filter.{nothingOpen, freshOf}
-use Rattle.dc_door.specs.FilterState.{numberAt, orderOf, coefficientsAt, memoryAt, stageAt, configAt, filterAt, readable, wordOf, flagWord, orderWord, configWords, coefficientWords, memoryWords, stageWords, wordsOf, written}
+use Rattle.lists.specs.Flags.{flagWord}
+use Rattle.lists.proofs.Flags.{flag-back, flag-small}
+use Rattle.dc_door.specs.FilterState.{numberAt, orderOf, coefficientsAt, memoryAt, stageAt, configAt, filterAt, readable, wordOf, orderWord, configWords, coefficientWords, memoryWords, stageWords, wordsOf, written}
 
 -- ---- the numbers are f32s, as they are in every filter that the code holds
 
@@ -45,17 +47,9 @@ pub record FilterFits (f : DcHighPassFilter) : Type 0 where
 word-back : (x : Float) → Fit x → ofBits binary32 (wordOf x) ≡ x
 word-back x h = ofBits-toBits binary32 x h
 
-flag-back : (b : Bool) → eqb (flagWord b) 1 ≡ b
-flag-back true = refl
-flag-back false = refl
-
 order-back : (o : HighpassOrder) → orderOf (eqb (orderWord o) 1) ≡ o
 order-back SecondOrder = refl
 order-back FourthOrder = refl
-
-flag-small : (b : Bool) → leb (flagWord b) 1 ≡ true
-flag-small true = refl
-flag-small false = refl
 
 order-small : (o : HighpassOrder) → leb (orderWord o) 1 ≡ true
 order-small SecondOrder = refl
@@ -145,8 +139,8 @@ module _ (f : DcHighPassFilter) (rest : List ℕ) where
   readable-back =
       four
       (le-leb 25 (length (wordsOf f ++ rest)) (omega arith))
-      (flag-small (f .config .«enable_dc_removal»))
-      (flag-small (f .config .«enable_highpass»))
+      (le-leb _ 1 (flag-small (f .config .«enable_dc_removal»)))
+      (le-leb _ 1 (flag-small (f .config .«enable_highpass»)))
       (order-small (f .config .«highpass_order»))
 
 -- ---- as the entry points leave it

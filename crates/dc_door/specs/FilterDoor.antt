@@ -5,9 +5,8 @@ use Prim.Native.Nat.{ℕ, _+_}
 use lib.Dec.{ltb, eqb}
 use lib.ListN.{length, getD}
 use lib.Ieee.{Float, nan}
-use Rattle.answers.specs.Answers.{packed}
+use Rattle.refusals.specs.Answers.{packed}
 use Rattle.dc_state.specs.declared.PreprocessingConfig.{PreprocessingConfig}
-use Rattle.dc_state.specs.declared.DcHighPassFilter.{DcHighPassFilter}
 use Rattle.dc_highpass.specs.Filter.{openOf, nothingOpen, processOf, outputAfter, resetOf, biasRead}
 use Rattle.dc_highpass.specs.declared.VadContext.{VadContext}
 use Rattle.dc_highpass.specs.declared.VadContext.the-variants.{Unlabelled, Silence, Speech}
@@ -41,12 +40,6 @@ openAnswer c xs ws = cond (ltb (length ws) 25) 27 (openedOf c xs .refusal)
 unfoldable pub openState : PreprocessingConfig → List Float → List ℕ → List ℕ
 openState c xs ws = cond (ltb (length ws) 25) ws (written (openedOf c xs .filter) ws)
 
--- ---- reading
-
--- words that are no state are read as the one that a refused opening leaves
-unfoldable pub readOf : List ℕ → DcHighPassFilter
-readOf ws = cond (readable ws) (filterAt ws) nothingOpen
-
 -- ---- a block
 
 -- the Rust's `Option<VadContext>` as two flags
@@ -58,7 +51,7 @@ labelOf true true = Silence
 unfoldable pub processAnswer : List ℕ → List Float → VadContext → ℕ → ℕ
 processAnswer ws xs label room =
     let r = processOf (filterAt ws) xs label room .refusal in
-    cond (readable ws) (packed (r .number) (r .place)) 27
+    cond (readable ws) (packed (r .number) (r .carries)) 27
 
 -- a refusal leaves the state as it is
 unfoldable pub processState : List ℕ → List Float → VadContext → ℕ → List ℕ

@@ -5,9 +5,10 @@
 use mathlib.Core.Bool.{Bool, true, false, _&&_}
 use mathlib.Core.List.{List, [], _∷_, _++_}
 use Prim.Native.Nat.{ℕ, _+_}
-use lib.Dec.{leb, eqb}
+use lib.Dec.{leb}
 use lib.ListN.{length, drop, getD}
 use lib.Ieee.{Float, binary32, ofBits, toBits}
+use Rattle.lists.specs.Flags.{flagAt, flagWord}
 use Rattle.dc_state.specs.declared.biquad.Biquad.{Biquad}
 use Rattle.dc_state.specs.declared.biquad.BiquadCoefficients.{BiquadCoefficients}
 use Rattle.dc_state.specs.declared.biquad.BiquadState.{BiquadState}
@@ -20,9 +21,6 @@ use Rattle.dc_state.specs.declared.DcHighPassFilter.{DcHighPassFilter}
 
 abbrev pub numberAt : List ℕ → ℕ → Float
 numberAt ws i = ofBits binary32 (getD ws i 0)
-
-abbrev pub flagAt : List ℕ → ℕ → Bool
-flagAt ws i = eqb (getD ws i 0) 1
 
 abbrev pub orderOf : Bool → HighpassOrder
 orderOf false = SecondOrder
@@ -61,10 +59,6 @@ readable ws = leb 25 (length ws) && (leb (getD ws 3 0) 1 && (leb (getD ws 4 0) 1
 -- every NaN has the same word
 abbrev pub wordOf : Float → ℕ
 wordOf x = toBits binary32 x
-
-abbrev pub flagWord : Bool → ℕ
-flagWord false = 0
-flagWord true = 1
 
 abbrev pub orderWord : HighpassOrder → ℕ
 orderWord SecondOrder = 0

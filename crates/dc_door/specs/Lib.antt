@@ -1,2 +1,3 @@
 pub mod FilterState
 pub mod FilterDoor
+pub mod Inside

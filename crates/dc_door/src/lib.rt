@@ -7,9 +7,10 @@ ghost use Prim.Native.Nat.{_+_, _≤_, _<_, _^_};
 ghost use lib.ListN.{length};
 ghost use lib.Seq.{sets};
 ghost use mathlib.Core.List.{map};
-ghost use Rattle.answers.specs.Answers.{packed};
+ghost use Rattle.refusals.specs.Answers.{packed};
 ghost use Rattle.dc_door.specs.FilterState.{numberAt, orderOf, coefficientsAt, memoryAt, stageAt, configAt, readable, wordOf, orderWord, configWords, written};
-ghost use Rattle.dc_door.specs.FilterDoor.{settingsOf, readOf, fiveAt, openedOf, openAnswer, openState, labelOf, processAnswer, processState, processOutput, resetAnswer, resetState, biasAnswer};
+ghost use Rattle.dc_door.specs.FilterDoor.{settingsOf, fiveAt, openedOf, openAnswer, openState, labelOf, processAnswer, processState, processOutput, resetAnswer, resetState, biasAnswer};
+ghost use Rattle.dc_door.specs.Inside.{readOf};
 use dc_highpass::Opened;
 use dc_highpass::VadContext;
 use dc_state::DcHighPassFilter;
@@ -209,7 +210,7 @@ fn keep(state: &mut [u32], number: u32, carried: u64, filter: DcHighPassFilter) 
     ensures { λ r. ⌜ r ≡ packed number carried ⌝ }
     ensures { λ _. ⌜ now (state .exit) ≡ cond (eqb number 0) (written filter (now (state .entry))) (now (state .entry)) ⌝ }
 {
-    let word = answers::answer(number, carried);
+    let word = refusals::answer(number, carried);
     if number == 0 {
         put_filter(state, filter);
     }
@@ -276,7 +277,7 @@ pub fn process(state: &mut [u32], samples: &[f32], context: VadContext, output: 
     keep(
         state,
         done.refusal.number,
-        done.refusal.place as u64,
+        done.refusal.carries as u64,
         done.filter,
     )
 }
@@ -295,5 +296,5 @@ pub fn bias(state: &[u32]) -> u64
     ensures { λ r. ⌜ r ≡ biasAnswer (now (state .entry)) ⌝ }
 {
     let bias = dc_highpass::dc_bias(filter_at(state));
-    answers::answer(bias.refusal, to_bits(bias.value) as u64)
+    refusals::answer(bias.refusal, to_bits(bias.value) as u64)
 }

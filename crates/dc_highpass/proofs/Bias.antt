@@ -15,13 +15,15 @@ use lib.Ieee.Fits.{down-pos}
 use lib.Ieee.Bits.{is-true}
 use Rattle.float.specs.Fused.{fusedOf}
 use Rattle.float.specs.declared.Rounded.{Rounded}
+use Rattle.float.specs.Numbers.{zero32 as +0, one32}
 use Rattle.float.proofs.Sticky.{side}
-use Rattle.float.proofs.Words.{both, T-of}
+use Rattle.lists.proofs.Tests.{both}
+use Rattle.float.proofs.Words.{T-of}
 use Rattle.float.proofs.Bounds.{fits-parts, Mag, Yields, mag-finite, held-small, held-scaled, held-own, over-value, mul-mag, add-mag, sub-mag, div-mag, fused-mag}
 use Rattle.ranges.specs.Ranges.{limit, inDomain, cleanOf}
 use Rattle.ranges.proofs.Laws.{leading-first, sample-mag}
 use Rattle.dc_state.specs.Biquad.{orNan}
-use Rattle.dc_state.specs.Settings.{zero as +0, one, alphaTaken}
+use Rattle.dc_state.specs.Settings.{alphaTaken}
 use Rattle.dc_highpass.specs.Filter.{sumFrom, meanOf, biasOf}
 
 -- ---- alpha is at most 1 − 2^-24
@@ -32,7 +34,7 @@ small : (m : ℕ) (e : ℤ) → m < 16777216 → m * up e < down e → m * up e 
 small m (pos i) h l = omega arith
 small m (negsuc i) h l = rw (mul-one m) h
 
-weight : (x : Float) → T (fits binary32 x) → T (lt +0 x) → T (lt x one) → Mag x 16777215 16777216
+weight : (x : Float) → T (fits binary32 x) → T (lt +0 x) → T (lt x one32) → Mag x 16777215 16777216
 unfolding lt ofBits
 weight nan t h l = absurd h
 weight (inf true) t h l = absurd h
@@ -96,7 +98,7 @@ blend w (fin s m e) z u t h g =
     (fused-mag w b z 16777215 16777216 B D 131072 1 B D (lit< tt) (down-pos e) (lit< tt) (down-pos e) (held-own binary32 b s B D u (down-pos e) (refl, refl)) h (le-refl (B * D)) g (blend-size B D l)))
     (side B (2199023255552 * D))
 
-one-mag : Mag one 1 1
+one-mag : Mag one32 1 1
 unfolding ofBits
 one-mag = lit≤ tt
 
@@ -104,7 +106,7 @@ pub bias-found : (alpha bias : Float) (x : Float) (xs : List Float) → T (fits 
     → length (x ∷ xs) ≤ 1024 → length (x ∷ xs) ≤ cleanOf (x ∷ xs) → finite (biasOf alpha bias (x ∷ xs)) ≡ true
 unfolding biasOf
 bias-found alpha bias x xs a taken b t l c =
-    let w = weight alpha a (T-of (both (lt +0 alpha) (lt alpha one) taken .0)) (T-of (both (lt +0 alpha) (lt alpha one) taken .1)) in
-    let rest = sub-mag binary32 one alpha 1 1 16777215 16777216 2 1 (lit< tt) (lit< tt) (lit< tt) (held-small binary32 2 (lit≤ tt)) one-mag w (lit≤ tt) in
-    blend alpha bias (mul binary32 (sub binary32 one alpha) (meanOf (x ∷ xs))) b (T-of t) w
-    (mul-mag binary32 (sub binary32 one alpha) (meanOf (x ∷ xs)) 2 1 65536 1 131072 1 (lit< tt) (lit< tt) (lit< tt) (held-small binary32 131072 (lit≤ tt)) rest (mean-mag x xs l c) (lit≤ tt))
+    let w = weight alpha a (T-of (both (lt +0 alpha) (lt alpha one32) taken .0)) (T-of (both (lt +0 alpha) (lt alpha one32) taken .1)) in
+    let rest = sub-mag binary32 one32 alpha 1 1 16777215 16777216 2 1 (lit< tt) (lit< tt) (lit< tt) (held-small binary32 2 (lit≤ tt)) one-mag w (lit≤ tt) in
+    blend alpha bias (mul binary32 (sub binary32 one32 alpha) (meanOf (x ∷ xs))) b (T-of t) w
+    (mul-mag binary32 (sub binary32 one32 alpha) (meanOf (x ∷ xs)) 2 1 65536 1 131072 1 (lit< tt) (lit< tt) (lit< tt) (held-small binary32 131072 (lit≤ tt)) rest (mean-mag x xs l c) (lit≤ tt))

@@ -1,24 +1,26 @@
 -- What a call answers and leaves in the output, way by way. Assumes nothing.
 use mathlib.Core.Path.{_≡_, refl, sym, _∙_}
-use mathlib.Core.Bool.{Bool, true, false, not, cond}
+use mathlib.Core.Bool.{Bool, true, false, cond}
 use mathlib.Core.List.{List, [], _∷_, _++_, append-assoc}
 use Prim.Native.Nat.{ℕ, _+_, _-_, _≤_, _<_}
 use native.Mathlib.Nat.{zero-add}
 use native.Mathlib.Omega.{arith}
-use borrow.Author.Tests.{lt-ltb, le-ltb, ltb-false, ne-eqb}
-use lib.Dec.{ltb}
+use borrow.Author.Tests.{not-false, lt-ltb, le-ltb, ltb-false, ne-eqb}
 use lib.ListN.{length, drop, replicate, length-append, length-replicate}
 use lib.Seq.{sets}
 use lib.Ieee.{Float}
 use lib.Ieee.Scale.{finite}
+use Rattle.refusals.specs.Refusals.{refusal, accepted, firstOf}
+use Rattle.refusals.specs.declared.Refusal.{Refusal}
+use Rattle.refusals.proofs.First.{passed, none-held}
+use Rattle.float.specs.Numbers.{zero32}
 use Rattle.ranges.specs.Ranges.{cleanOf}
-use Rattle.dc_state.specs.Settings.{zero, soundOf}
+use Rattle.dc_state.specs.Settings.{soundOf}
 use Rattle.dc_state.specs.declared.DcHighPassFilter.{DcHighPassFilter}
-use Rattle.dc_highpass.specs.Filter.{biasedOf, passOf, resultsOf, afterOf, refused, checkOf, ranOf, processOf, writtenOf, outputAfter}
+use Rattle.dc_highpass.specs.Filter.{biasedOf, passOf, resultsOf, afterOf, checkOf, stopOf, ranOf, processOf, writtenOf, outputAfter}
 use Rattle.dc_highpass.specs.declared.VadContext.{VadContext}
-use Rattle.dc_highpass.specs.declared.Refusal.{Refusal}
 use Rattle.dc_highpass.specs.declared.Processed.{Processed}
-use Rattle.lists.specs.Stores.{sets-append, sets-all}
+use Rattle.lists.proofs.Stores.{sets-append, sets-all}
 
 pub results-le : (f : DcHighPassFilter) (xs : List Float) → length (resultsOf f xs) ≤ length xs
 unfolding resultsOf
@@ -35,50 +37,45 @@ pub record Checked (f : DcHighPassFilter) (xs : List Float) (room : ℕ) : Type 
   pub short : length xs ≤ 1024
   pub fits : length xs ≤ room
   pub clean : length xs ≤ cleanOf xs
-  pub none : checkOf f xs room ≡ refused 0 0
-
-chain : (s l r b : Bool) (p : ℕ) → cond (not s) (refused 27 0) (cond l (refused 15 0) (cond r (refused 25 0) (cond b (refused 16 p) (refused 0 0)))) .number ≡ 0
-    → (s ≡ true) × (l ≡ false) × (r ≡ false) × (b ≡ false)
-chain true false false false p h = (refl, refl, refl, refl)
-chain true false false true p h = absurd (omega arith)
-chain true false true b p h = absurd (omega arith)
-chain true true r b p h = absurd (omega arith)
-chain false l r b p h = absurd (omega arith)
+  pub none : checkOf f xs room ≡ accepted
 
 pub checked : (f : DcHighPassFilter) (xs : List Float) (room : ℕ) → checkOf f xs room .number ≡ 0 → Checked f xs room
 unfolding checkOf
 checked f xs room h =
-    let t = chain (soundOf f) (ltb 1024 (length xs)) (ltb room (length xs)) (ltb (cleanOf xs) (length xs)) (cleanOf xs) h in
+    let p27 = passed _ _ refl h in
+    let p15 = passed _ _ (p27 .1 .0) (p27 .1 .1) in
+    let p25 = passed _ _ (p15 .1 .0) (p15 .1 .1) in
+    let p16 = passed _ _ (p25 .1 .0) (p25 .1 .1) in
     record {
-      sound = t .0;
-      short = ltb-false _ _ (t .1);
-      fits = ltb-false _ _ (t .2);
-      clean = ltb-false _ _ (t .3);
-      none = rw (t .0, t .1, t .2, t .3);
+      sound = not-false _ (p27 .0);
+      short = ltb-false _ _ (p15 .0);
+      fits = ltb-false _ _ (p25 .0);
+      clean = ltb-false _ _ (p16 .0);
+      none = none-held _ refl h;
     }
 
 -- what `run` and `clear` write one after the other
-pub written : (ys : List Float) (n : ℕ) (out : List Float) → length ys ≤ n → n ≤ length out → sets (sets out 0 ys) (length ys) (replicate (n - length ys) zero) ≡ writtenOf ys n out
+pub written : (ys : List Float) (n : ℕ) (out : List Float) → length ys ≤ n → n ≤ length out → sets (sets out 0 ys) (length ys) (replicate (n - length ys) zero32) ≡ writtenOf ys n out
 unfolding writtenOf
 written ys n out h k =
-    let zs = replicate (n - length ys) zero in
-    let long : length (ys ++ zs) ≡ n = (let a = length-append ys zs in let b = length-replicate (n - length ys) zero in omega arith) in
+    let zs = replicate (n - length ys) zero32 in
+    let long : length (ys ++ zs) ≡ n = (let a = length-append ys zs in let b = length-replicate (n - length ys) zero32 in omega arith) in
     let joined : sets out 0 (ys ++ zs) ≡ sets (sets out 0 ys) (length ys) zs = sets-append out 0 ys zs ∙ rw (zero-add (length ys)) in
     sym joined ∙ sets-all out (ys ++ zs) (omega arith) ∙ rw (long, append-assoc ys zs (drop n out))
 
 -- ---- a block that is taken
 
 module _ (given f : DcHighPassFilter) (xs : List Float) (n : ℕ) (c : n ≡ length (resultsOf f xs)) where
-  pub ran-stuck : n < length xs → record { refusal = refused 26 n; filter = given } ≡ ranOf given f xs
-  unfolding ranOf
+  pub ran-stuck : n < length xs → record { refusal = refusal 26 n; filter = given } ≡ ranOf given f xs
+  unfolding ranOf stopOf firstOf
   ran-stuck l = rw (← c, lt-ltb n (length xs) l)
 
-  pub ran-done : length xs ≤ n → (h : DcHighPassFilter) → h ≡ afterOf f xs → record { refusal = refused 0 0; filter = h } ≡ ranOf given f xs
-  unfolding ranOf
+  pub ran-done : length xs ≤ n → (h : DcHighPassFilter) → h ≡ afterOf f xs → record { refusal = accepted; filter = h } ≡ ranOf given f xs
+  unfolding ranOf stopOf firstOf
   ran-done l h a = rw (← a, ← c, le-ltb n (length xs) l)
 
   module _ (out mid : List Float) (room : length xs ≤ length out) (ran : mid ≡ sets out 0 (resultsOf f xs)) where
-    pub written-stuck : (last : List Float) → last ≡ sets mid n (replicate (length xs - n) zero) → last ≡ writtenOf (resultsOf f xs) (length xs) out
+    pub written-stuck : (last : List Float) → last ≡ sets mid n (replicate (length xs - n) zero32) → last ≡ writtenOf (resultsOf f xs) (length xs) out
     written-stuck last e = e ∙ rw (ran, c) (written (resultsOf f xs) (length xs) out (results-le f xs) room)
 
     pub written-done : length xs ≤ n → mid ≡ writtenOf (resultsOf f xs) (length xs) out

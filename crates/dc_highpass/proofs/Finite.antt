@@ -4,7 +4,7 @@ use mathlib.Core.Bool.{Bool, true, false, cond}
 use mathlib.Core.List.{[], _∷_, _++_}
 use lib.Ieee.{Float}
 use lib.Ieee.Scale.{finite}
-use Rattle.float.proofs.Words.{both}
+use Rattle.lists.proofs.Tests.{both}
 use Rattle.dc_state.specs.Biquad.{heard}
 use Rattle.dc_state.specs.Operations.{centredOf, stageResults, stagesResults, sampleResults, everyFinite}
 use Rattle.dc_state.specs.declared.HighpassOrder.{HighpassOrder}

@@ -9,9 +9,12 @@ use lib.Dec.{ltb, eqb}
 use lib.ListN.{length, getD}
 use lib.Ieee.{Float, binary32, ofBits, sub}
 use lib.Ieee.Scale.{finite}
-use Rattle.ranges.specs.Ranges.{cleanOf}
+use Rattle.lists.proofs.Tests.{either}
+use Rattle.refusals.specs.Refusals.{refusal, accepted, firstOf}
+use Rattle.refusals.proofs.First.{skip, never, number-of}
+use Rattle.ranges.specs.Ranges.{rateIn}
 use Rattle.dc_state.specs.Biquad.{heard}
-use Rattle.dc_state.specs.Settings.{refusalOf, remembersFinite, soundOf}
+use Rattle.dc_state.specs.Settings.{settingRefusals, refusalOf, remembersFinite, soundOf}
 use Rattle.dc_state.specs.Operations.{centredOf}
 use Rattle.dc_state.specs.declared.biquad.BiquadCoefficients.{BiquadCoefficients}
 use Rattle.dc_state.specs.declared.HighpassOrder.{HighpassOrder}
@@ -20,7 +23,7 @@ use Rattle.dc_state.specs.declared.PreprocessingConfig.{PreprocessingConfig}
 use Rattle.dc_state.specs.declared.DcHighPassFilter.{DcHighPassFilter}
 use Rattle.dc_state.proofs.Finite.{sub-finite, stage-passes}
 use Rattle.dc_state.proofs.Parts.{Parts, parts, whole, stepped-finite}
-use Rattle.dc_highpass.specs.Filter.{coefficientsOf, refused, freshOf, nothingOpen, openOf, listens, biasOf, biasedOf, stagedBy, passOf, resultsOf, afterOf, checkOf, ranOf, processOf, resetOf}
+use Rattle.dc_highpass.specs.Filter.{coefficientsOf, freshOf, nothingOpen, openOf, listens, biasOf, biasedOf, stagedBy, passOf, resultsOf, afterOf, checkOf, stopOf, ranOf, processOf, resetOf}
 use Rattle.dc_highpass.specs.Run.{Call, Block, Reset, next, numberOf, play}
 use Rattle.dc_highpass.specs.declared.VadContext.{VadContext}
 use Rattle.dc_highpass.specs.declared.Processed.{Processed}
@@ -103,11 +106,11 @@ biased-sound f (x ∷ xs) label p h = go (f .config .«enable_dc_removal») (lis
 
 -- ---- the calls
 ran-sound : (f : DcHighPassFilter) (xs : List Float) (label : VadContext) → Parts f → Parts (ranOf f (biasedOf f xs label) xs .filter)
-unfolding ranOf
+unfolding ranOf stopOf firstOf
 ran-sound f xs label p = go (ltb (length (resultsOf (biasedOf f xs label) xs)) (length xs)) refl
   where
     go : (t : Bool) → ltb (length (resultsOf (biasedOf f xs label) xs)) (length xs) ≡ t
-        → Parts (cond {A = Processed} t (record { refusal = refused 26 (length (resultsOf (biasedOf f xs label) xs)); filter = f }) (record { refusal = refused 0 0; filter = afterOf (biasedOf f xs label) xs }) .filter)
+        → Parts (cond (eqb (cond t (refusal 26 (length (resultsOf (biasedOf f xs label) xs))) accepted .number) 0) (afterOf (biasedOf f xs label) xs) f)
     go true e = p
     go false e = after-sound xs (biasedOf f xs label) (biased-sound f xs label p (ltb-false _ _ e))
 
@@ -144,31 +147,24 @@ unfolding openOf
 open-sound c a z = rw z (whole _ (fresh-sound c (coefficientsOf (getD a 0 [])) (coefficientsOf (getD a 1 [])) z))
 
 -- a sound state is not refused by 27
-check-taken : (s l r b : Bool) (p : ℕ) → s ≡ true → cond (not s) (refused 27 0) (cond l (refused 15 0) (cond r (refused 25 0) (cond b (refused 16 p) (refused 0 0)))) .number ≡ 27 → ⊥
-check-taken true true r b p h e = absurd (omega arith)
-check-taken true false true b p h e = absurd (omega arith)
-check-taken true false false true p h e = absurd (omega arith)
-check-taken true false false false p h e = absurd (omega arith)
-check-taken false l r b p h e = absurd (true≢false (sym h))
+check-taken : (f : DcHighPassFilter) (xs : List Float) (room : ℕ) → soundOf f ≡ true → checkOf f xs room .number ≡ 27 → ⊥
+unfolding checkOf
+check-taken f xs room h e = never 27 _ refl (λ z. omega arith) (number-of (skip _ _ (ap not h)) ∙ e)
 
-ran-taken : (t : Bool) (n : ℕ) (f g : DcHighPassFilter) → cond {A = Processed} t (record { refusal = refused 26 n; filter = f }) (record { refusal = refused 0 0; filter = g }) .refusal .number ≡ 27 → ⊥
-ran-taken true n f g e = absurd (omega arith)
-ran-taken false n f g e = absurd (omega arith)
+stop-taken : (f : DcHighPassFilter) (xs : List Float) → stopOf f xs .number ≡ 27 → ⊥
+unfolding stopOf
+stop-taken f xs = never 27 _ refl (λ z. omega arith)
 
 reset-taken : (t : Bool) (f g : DcHighPassFilter) → t ≡ true → cond {A = Opened} t (record { refusal = 0; filter = f }) (record { refusal = 27; filter = g }) .refusal ≡ 27 → ⊥
 reset-taken true f g h e = absurd (omega arith)
 reset-taken false f g h e = absurd (true≢false (sym h))
 
-block-taken : (t : Bool) (p q : Processed) → (p .refusal .number ≡ 27 → ⊥) → (q .refusal .number ≡ 27 → ⊥) → cond t p q .refusal .number ≡ 27 → ⊥
-block-taken true p q h k = h
-block-taken false p q h k = k
-
 sound-taken : (f : DcHighPassFilter) (k : Call) → soundOf f ≡ true → numberOf f k ≡ 27 → ⊥
-unfolding numberOf processOf ranOf checkOf resetOf
+unfolding numberOf processOf ranOf resetOf
 sound-taken f (Block xs label room) h =
-    block-taken (eqb (checkOf f xs room .number) 0) (ranOf f (biasedOf f xs label) xs) (record { refusal = checkOf f xs room; filter = f })
-    (ran-taken (ltb (length (resultsOf (biasedOf f xs label) xs)) (length xs)) (length (resultsOf (biasedOf f xs label) xs)) f (afterOf (biasedOf f xs label) xs))
-    (check-taken (soundOf f) (ltb 1024 (length xs)) (ltb room (length xs)) (ltb (cleanOf xs) (length xs)) (cleanOf xs) h)
+    either (λ (p : Processed). p .refusal .number ≡ 27 → ⊥) (eqb (checkOf f xs room .number) 0) (ranOf f (biasedOf f xs label) xs) (record { refusal = checkOf f xs room; filter = f })
+    (stop-taken (biasedOf f xs label) xs)
+    (check-taken f xs room h)
 sound-taken f Reset h = reset-taken (soundOf f) (freshOf (f .config) (f .first .coeffs) (f .second .coeffs)) f h
 
 -- from an accepted opening, over any calls, refused ones among them, every state is sound, and no call is refused by 27
@@ -180,5 +176,5 @@ never-malformed c a ks k z = sound-taken (play (openOf c a .filter) ks) k (run-s
 
 -- 'A refused opening returns an all-zero state. Later calls on it .. are refused by .. 27'
 pub nothing-malformed : soundOf nothingOpen ≡ false
-unfolding soundOf nothingOpen freshOf refusalOf
+unfolding soundOf nothingOpen freshOf refusalOf settingRefusals firstOf rateIn
 nothing-malformed = refl

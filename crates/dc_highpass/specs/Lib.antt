@@ -1,2 +1,3 @@
 pub mod Filter
 pub mod Run
+pub mod Inside

@@ -3,10 +3,13 @@ ghost use mathlib.Core.Path.{_≡_};
 ghost use Prim.Native.Nat.{_-_, _≤_};
 ghost use lib.ListN.{length, replicate};
 ghost use lib.Seq.{sets};
-ghost use lib.Ieee.{binary32, ofBits, neg};
+ghost use lib.Ieee.{neg};
+ghost use Rattle.float.specs.Numbers.{zero32};
 ghost use Rattle.dc_state.specs.Biquad.{stepped, heard};
 ghost use Rattle.dc_state.specs.Operations.{centredOf};
-ghost use Rattle.dc_highpass.specs.Filter.{coefficientsOf, freshOf, nothingOpen, openOf, listens, sumFrom, meanOf, biasedOf, passedOf, stagedBy, passOf, resultsOf, refused, checkOf, ranOf, writtenOf, processOf, outputAfter, resetOf, biasRead};
+ghost use Rattle.refusals.specs.Refusals.{refusal};
+ghost use Rattle.dc_highpass.specs.Filter.{coefficientsOf, freshOf, nothingOpen, openOf, listens, sumFrom, meanOf, biasedOf, stagedBy, passOf, resultsOf, checkOf, ranOf, writtenOf, processOf, outputAfter, resetOf, biasRead};
+ghost use Rattle.dc_highpass.specs.Inside.{passedOf};
 use dc_state::DcHighPassFilter;
 use dc_state::HighpassOrder;
 use dc_state::PreprocessingConfig;
@@ -16,18 +19,14 @@ use dc_state::biquad::BiquadCoefficients;
 use dc_state::biquad::BiquadState;
 use dc_state::settings::sound;
 use dc_state::settings::validate;
+use ranges::BLOCK_MOST;
+use refusals::Refusal;
 
 // What is known of a block: the Rust's `Option<VadContext>`.
 pub enum VadContext {
     Unlabelled,
     Silence,
     Speech,
-}
-
-// The number of a refusal, 0 for none, and the sample's place where it carries one.
-pub struct Refusal {
-    pub number: u32,
-    pub place: usize,
 }
 
 // What opening and reset answer: 0 or the refusal's number, and the state.
@@ -177,7 +176,7 @@ pub fn dc_bias(filter: DcHighPassFilter) -> Reading
 
 // Left to right from −0, as the Rust's `sum` does.
 fn sum(samples: &[f32]) -> f32
-    ensures { λ r. ⌜ r ≡ sumFrom (neg (ofBits binary32 0)) (now (samples .entry)) ⌝ }
+    ensures { λ r. ⌜ r ≡ sumFrom (neg zero32) (now (samples .entry)) ⌝ }
 {
     let mut total = -0.0;
     let mut i = 0;
@@ -300,35 +299,38 @@ fn check(filter: DcHighPassFilter, samples: &[f32], room: usize) -> Refusal
     if !sound(filter) {
         return Refusal {
             number: 27,
-            place: 0,
+            carries: 0,
         };
     }
-    if 1024 < samples.len() {
+    if BLOCK_MOST < samples.len() {
         return Refusal {
             number: 15,
-            place: 0,
+            carries: 0,
         };
     }
     if room < samples.len() {
         return Refusal {
             number: 25,
-            place: 0,
+            carries: 0,
         };
     }
     let place = ranges::clean(samples);
     if place < samples.len() {
-        return Refusal { number: 16, place };
+        return Refusal {
+            number: 16,
+            carries: place,
+        };
     }
     Refusal {
         number: 0,
-        place: 0,
+        carries: 0,
     }
 }
 
 // Zeros from one place up to another.
 fn clear(output: &mut [f32], from: usize, end: usize)
     requires { ⌜ (from ≤ end) × (end ≤ length (now output)) ⌝ }
-    ensures { λ _. ⌜ now (output .exit) ≡ sets (now (output .entry)) from (replicate (end - from) (ofBits binary32 0)) ⌝ }
+    ensures { λ _. ⌜ now (output .exit) ≡ sets (now (output .entry)) from (replicate (end - from) zero32) ⌝ }
 {
     let mut i = from;
     while i < end {
@@ -337,11 +339,11 @@ fn clear(output: &mut [f32], from: usize, end: usize)
     }
 }
 
-fn answer(number: u32, place: usize, filter: DcHighPassFilter) -> Processed
-    ensures { λ r. ⌜ r ≡ record { refusal = refused number place; filter = filter } ⌝ }
+fn answer(number: u32, carries: usize, filter: DcHighPassFilter) -> Processed
+    ensures { λ r. ⌜ r ≡ record { refusal = refusal number carries; filter = filter } ⌝ }
 {
     Processed {
-        refusal: Refusal { number, place },
+        refusal: Refusal { number, carries },
         filter,
     }
 }
@@ -383,7 +385,7 @@ pub fn process(
 {
     let refusal = check(filter, samples, output.len());
     if refusal.number != 0 {
-        return answer(refusal.number, refusal.place, filter);
+        return answer(refusal.number, refusal.carries, filter);
     }
     let biased = update_dc_bias(filter, samples, context);
     run(filter, biased, samples, output)

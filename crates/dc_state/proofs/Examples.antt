@@ -3,7 +3,9 @@ use mathlib.Core.Path.{_≡_, refl}
 use mathlib.Core.Bool.{Bool, true, false}
 use Prim.Native.Nat.{ℕ}
 use lib.Ieee.{binary32, ofBits, ofInt, le, lt, div, neg, round}
-use Rattle.dc_state.specs.Settings.{refusalOf, stageTaken, stagesTaken}
+use Rattle.refusals.specs.Refusals.{firstOf}
+use Rattle.ranges.specs.Ranges.{rateIn}
+use Rattle.dc_state.specs.Settings.{settingRefusals, refusalOf, stageTaken, stagesTaken}
 use Rattle.dc_state.specs.declared.biquad.BiquadCoefficients.{BiquadCoefficients}
 use Rattle.dc_state.specs.declared.HighpassOrder.{HighpassOrder}
 use Rattle.dc_state.specs.declared.HighpassOrder.the-variants.{SecondOrder, FourthOrder}
@@ -39,7 +41,7 @@ pub stages-in-use :
     (refusalOf (settings 0x42A0_0000 16000 0x3F73_3333 true true SecondOrder) plain missing ≡ 0)
     × (refusalOf (settings 0x42A0_0000 16000 0x3F73_3333 true true FourthOrder) plain missing ≡ 24)
     × (refusalOf (settings 0x42A0_0000 16000 0x3F73_3333 true false SecondOrder) missing plain ≡ 24)
-unfolding refusalOf stagesTaken stageTaken ofBits le lt div ofInt neg round
+unfolding refusalOf settingRefusals firstOf rateIn stagesTaken stageTaken ofBits le lt div ofInt neg round
 stages-in-use = (refl, refl, refl)
 
 -- 8,000 and 48,000 are in the domain, their neighbours outside are not
@@ -48,7 +50,7 @@ pub rate-edges :
     × (refusalOf (settings 0x42A0_0000 8000 0x3F73_3333 true true SecondOrder) plain plain ≡ 0)
     × (refusalOf (settings 0x42A0_0000 48000 0x3F73_3333 true true SecondOrder) plain plain ≡ 0)
     × (refusalOf (settings 0x42A0_0000 48001 0x3F73_3333 true true SecondOrder) plain plain ≡ 20)
-unfolding refusalOf stagesTaken stageTaken ofBits le lt div ofInt neg round
+unfolding refusalOf settingRefusals firstOf rateIn stagesTaken stageTaken ofBits le lt div ofInt neg round
 rate-edges = (refl, refl, refl, refl)
 
 -- a cutoff that is NaN, infinite, the float below 20, and 20; half the rate, and the float below
@@ -59,7 +61,7 @@ pub cutoff-edges :
     × (refusalOf (settings 0x41A0_0000 16000 0x3F73_3333 true true SecondOrder) plain plain ≡ 0)
     × (refusalOf (settings 0x45FA_0000 16000 0x3F73_3333 true true SecondOrder) plain plain ≡ 22)
     × (refusalOf (settings 0x45F9_FFFF 16000 0x3F73_3333 true true SecondOrder) plain plain ≡ 0)
-unfolding refusalOf stagesTaken stageTaken ofBits le lt div ofInt neg round
+unfolding refusalOf settingRefusals firstOf rateIn stagesTaken stageTaken ofBits le lt div ofInt neg round
 cutoff-edges = (refl, refl, refl, refl, refl, refl)
 
 -- alpha 0, −0, 1 and NaN; the floats next to 0 and 1
@@ -70,14 +72,14 @@ pub alpha-edges :
     × (refusalOf (settings 0x42A0_0000 16000 0x7FC0_0000 true true SecondOrder) plain plain ≡ 23)
     × (refusalOf (settings 0x42A0_0000 16000 1 true true SecondOrder) plain plain ≡ 0)
     × (refusalOf (settings 0x42A0_0000 16000 0x3F7F_FFFF true true SecondOrder) plain plain ≡ 0)
-unfolding refusalOf stagesTaken stageTaken ofBits le lt div ofInt neg round
+unfolding refusalOf settingRefusals firstOf rateIn stagesTaken stageTaken ofBits le lt div ofInt neg round
 alpha-edges = (refl, refl, refl, refl, refl, refl)
 
 -- the ends of 24's ranges are in them, −0 too
 pub range-ends :
     (refusalOf (settings 0x42A0_0000 16000 0x3F73_3333 true true SecondOrder) (stage 0x3F80_0000 0xC000_0000 0x8000_0000 0x4000_0000 0xBF80_0000) missing ≡ 0)
     × (refusalOf (settings 0x42A0_0000 16000 0x3F73_3333 true true SecondOrder) (stage 0 0x8000_0000 0x3F80_0000 0xC000_0000 0x3F80_0000) missing ≡ 0)
-unfolding refusalOf stagesTaken stageTaken ofBits le lt div ofInt neg round
+unfolding refusalOf settingRefusals firstOf rateIn stagesTaken stageTaken ofBits le lt div ofInt neg round
 range-ends = (refl, refl)
 
 -- the floats past them are not: b0 above and below, b1, b2, a1, a2
@@ -92,5 +94,5 @@ pub range-edges :
     × (refusalOf (settings 0x42A0_0000 16000 0x3F73_3333 true true SecondOrder) (stage 0x3F00_0000 0xBF80_0000 0x3F00_0000 0xC000_0001 0) missing ≡ 24)
     × (refusalOf (settings 0x42A0_0000 16000 0x3F73_3333 true true SecondOrder) (stage 0x3F00_0000 0xBF80_0000 0x3F00_0000 0 0x3F80_0001) missing ≡ 24)
     × (refusalOf (settings 0x42A0_0000 16000 0x3F73_3333 true true SecondOrder) (stage 0x3F00_0000 0xBF80_0000 0x3F00_0000 0 0xBF80_0001) missing ≡ 24)
-unfolding refusalOf stagesTaken stageTaken ofBits le lt div ofInt neg round
+unfolding refusalOf settingRefusals firstOf rateIn stagesTaken stageTaken ofBits le lt div ofInt neg round
 range-edges = (refl, refl, refl, refl, refl, refl, refl, refl, refl, refl)

@@ -5,7 +5,7 @@ use mathlib.Core.List.{List, [], _∷_, _++_}
 use lib.Ieee.{Float, nan, inf, fin, binary32, add, sub, mul, neg}
 use lib.Ieee.Scale.{finite}
 use Rattle.float.specs.Fused.{fusedOf}
-use Rattle.float.proofs.Words.{both}
+use Rattle.lists.proofs.Tests.{both}
 use Rattle.dc_state.specs.Biquad.{orNan, outputOf, heard}
 use Rattle.dc_state.specs.Operations.{stageResults, everyFinite}
 use Rattle.dc_state.specs.declared.biquad.Biquad.{Biquad}

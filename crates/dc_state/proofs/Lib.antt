@@ -1,4 +1,3 @@
-pub mod Tests
 pub mod Finite
 pub mod Parts
 pub mod Examples

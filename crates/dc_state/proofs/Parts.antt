@@ -4,7 +4,7 @@ use mathlib.Core.Bool.{true, _&&_}
 use lib.Dec.{eqb}
 use lib.Ieee.{Float}
 use lib.Ieee.Scale.{finite}
-use Rattle.float.proofs.Words.{both}
+use Rattle.lists.proofs.Tests.{both}
 use Rattle.dc_state.specs.Biquad.{nextOf, heard}
 use Rattle.dc_state.specs.Settings.{refusalOf, remembersFinite, soundOf}
 use Rattle.dc_state.specs.declared.biquad.Biquad.{Biquad}

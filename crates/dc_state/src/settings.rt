@@ -1,12 +1,13 @@
 // Refusals 20 to 24 and 27: which settings, coefficients and states are taken.
 ghost use mathlib.Core.Path.{_≡_};
-ghost use Rattle.dc_state.specs.Settings.{rateTaken, cutoffTaken, belowHalf, alphaTaken, stageTaken, stagesTaken, refusalOf, remembersFinite, soundOf};
+ghost use Rattle.dc_state.specs.Settings.{cutoffTaken, belowHalf, alphaTaken, stageTaken, stagesTaken, refusalOf, remembersFinite, soundOf};
 use super::DcHighPassFilter;
 use super::HighpassOrder;
 use super::PreprocessingConfig;
 use super::biquad::BiquadCoefficients;
 use super::biquad::BiquadState;
 use ranges::inside;
+use ranges::rate_allowed;
 
 fn stage_taken(c: BiquadCoefficients) -> bool
     ensures { λ r. ⌜ r ≡ stageTaken c ⌝ }
@@ -38,15 +39,6 @@ fn stages_taken(order: HighpassOrder, first: BiquadCoefficients, second: BiquadC
             false
         }
     }
-}
-
-fn rate_taken(rate: u32) -> bool
-    ensures { λ r. ⌜ r ≡ rateTaken rate ⌝ }
-{
-    if 8_000 <= rate {
-        return rate <= 48_000;
-    }
-    false
 }
 
 fn cutoff_taken(cutoff: f32) -> bool
@@ -81,7 +73,7 @@ pub fn validate(
 ) -> u32
     ensures { λ r. ⌜ r ≡ refusalOf config first second ⌝ }
 {
-    if !rate_taken(config.sample_rate_hz) {
+    if !rate_allowed(config.sample_rate_hz) {
         return 20;
     }
     if !cutoff_taken(config.highpass_cutoff_hz) {

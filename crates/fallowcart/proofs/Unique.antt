@@ -7,7 +7,7 @@ use Rattle.float.specs.Fused.{fusedOf}
 use Rattle.float.specs.Root.{rootOf}
 use Rattle.float.proofs.Unique.{only}
 use Rattle.fallowcart.specs.Pattern.{patternOf}
-use Rattle.fallowcart.specs.Settings.{settingsOf}
+use Rattle.vad_config.specs.Config.{settingsOf}
 use Rattle.vad_config.specs.declared.VadConfig.{VadConfig}
 
 module _ (x y z : ℕ) (r q : ℕ) where

@@ -1,6 +1,6 @@
 // The detector's settings, which a caller hands over one by one.
 ghost use mathlib.Core.Path.{_≡_};
-ghost use Rattle.fallowcart.specs.Settings.{settingsOf};
+ghost use Rattle.vad_config.specs.Config.{settingsOf};
 use vad_config::VadConfig;
 
 // The fields of the Rust's `VadConfig` in its order, durations in nanoseconds, the optional number as a flag and a number.

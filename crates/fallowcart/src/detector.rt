@@ -1,8 +1,10 @@
-// The detector, whose functions are vad_door's; the state is 29 numbers and 4,407 floats that the host keeps.
+// The detector, whose functions are vad_door's; the state is numbers and floats that the host keeps, laid out as vad_layout says.
 ghost use mathlib.Core.Path.{_≡_};
 ghost use lib.ListN.{length};
-ghost use Rattle.fallowcart.specs.Settings.{settingsOf};
-ghost use Rattle.vad_door.specs.DetectorDoor.{openAnswer, openNumbers, openFloats, callAnswer, callNumbers, callFloats, detected, flushed, restarted, detectedRows, flushedRows, undecidedAnswer, analyzedAnswer, rowsAnswer, talkAnswer, floorAnswer, segmentAnswer};
+ghost use Rattle.vad_config.specs.Config.{settingsOf};
+ghost use Rattle.vad_detector.specs.Readings.{undecidedRead, analyzedRead, rowsRead, talkRead};
+ghost use Rattle.vad_detector.specs.Run.{Detect, Flush, Reset};
+ghost use Rattle.vad_door.specs.DetectorDoor.{openAnswer, openNumbers, openFloats, answered, callAnswer, callNumbers, callFloats, detectedRows, flushedRows, readAnswer, floorAnswer, segmentAnswer};
 use crate::config::collected;
 
 // The window is a frame long; the host works it and the rise weight out.
@@ -58,9 +60,9 @@ pub extern "C" fn fallowcart_vad_detect(
     samples: &[f32],
     rows: &mut [u64],
 ) -> u64
-    ensures { λ r. ⌜ r ≡ callAnswer (now (numbers .entry)) (now (floats .entry)) (detected (now (numbers .entry)) (now (floats .entry)) (now (samples .entry)) (length (now (rows .entry)))) ⌝ }
-    ensures { λ _. ⌜ now (numbers .exit) ≡ callNumbers (now (numbers .entry)) (now (floats .entry)) (detected (now (numbers .entry)) (now (floats .entry)) (now (samples .entry)) (length (now (rows .entry)))) ⌝ }
-    ensures { λ _. ⌜ now (floats .exit) ≡ callFloats (now (numbers .entry)) (now (floats .entry)) (detected (now (numbers .entry)) (now (floats .entry)) (now (samples .entry)) (length (now (rows .entry)))) ⌝ }
+    ensures { λ r. ⌜ r ≡ callAnswer (now (numbers .entry)) (now (floats .entry)) (answered (Detect (now (samples .entry)) (length (now (rows .entry))))) ⌝ }
+    ensures { λ _. ⌜ now (numbers .exit) ≡ callNumbers (now (numbers .entry)) (now (floats .entry)) (answered (Detect (now (samples .entry)) (length (now (rows .entry))))) ⌝ }
+    ensures { λ _. ⌜ now (floats .exit) ≡ callFloats (now (numbers .entry)) (now (floats .entry)) (answered (Detect (now (samples .entry)) (length (now (rows .entry))))) ⌝ }
     ensures { λ _. ⌜ now (rows .exit) ≡ detectedRows (now (numbers .entry)) (now (floats .entry)) (now (samples .entry)) (now (rows .entry)) ⌝ }
 {
     vad_door::detect(numbers, floats, samples, rows)
@@ -73,9 +75,9 @@ pub extern "C" fn fallowcart_vad_flush(
     floats: &mut [f32],
     rows: &mut [u64],
 ) -> u64
-    ensures { λ r. ⌜ r ≡ callAnswer (now (numbers .entry)) (now (floats .entry)) (flushed (now (numbers .entry)) (now (floats .entry)) (length (now (rows .entry)))) ⌝ }
-    ensures { λ _. ⌜ now (numbers .exit) ≡ callNumbers (now (numbers .entry)) (now (floats .entry)) (flushed (now (numbers .entry)) (now (floats .entry)) (length (now (rows .entry)))) ⌝ }
-    ensures { λ _. ⌜ now (floats .exit) ≡ callFloats (now (numbers .entry)) (now (floats .entry)) (flushed (now (numbers .entry)) (now (floats .entry)) (length (now (rows .entry)))) ⌝ }
+    ensures { λ r. ⌜ r ≡ callAnswer (now (numbers .entry)) (now (floats .entry)) (answered (Flush (length (now (rows .entry))))) ⌝ }
+    ensures { λ _. ⌜ now (numbers .exit) ≡ callNumbers (now (numbers .entry)) (now (floats .entry)) (answered (Flush (length (now (rows .entry))))) ⌝ }
+    ensures { λ _. ⌜ now (floats .exit) ≡ callFloats (now (numbers .entry)) (now (floats .entry)) (answered (Flush (length (now (rows .entry))))) ⌝ }
     ensures { λ _. ⌜ now (rows .exit) ≡ flushedRows (now (numbers .entry)) (now (floats .entry)) (now (rows .entry)) ⌝ }
 {
     vad_door::flush(numbers, floats, rows)
@@ -87,9 +89,9 @@ pub extern "C" fn fallowcart_vad_reset(
     floats: &mut [f32],
     stream_start_time: u64,
 ) -> u64
-    ensures { λ r. ⌜ r ≡ callAnswer (now (numbers .entry)) (now (floats .entry)) (restarted (now (numbers .entry)) (now (floats .entry)) «stream_start_time») ⌝ }
-    ensures { λ _. ⌜ now (numbers .exit) ≡ callNumbers (now (numbers .entry)) (now (floats .entry)) (restarted (now (numbers .entry)) (now (floats .entry)) «stream_start_time») ⌝ }
-    ensures { λ _. ⌜ now (floats .exit) ≡ callFloats (now (numbers .entry)) (now (floats .entry)) (restarted (now (numbers .entry)) (now (floats .entry)) «stream_start_time») ⌝ }
+    ensures { λ r. ⌜ r ≡ callAnswer (now (numbers .entry)) (now (floats .entry)) (answered (Reset «stream_start_time»)) ⌝ }
+    ensures { λ _. ⌜ now (numbers .exit) ≡ callNumbers (now (numbers .entry)) (now (floats .entry)) (answered (Reset «stream_start_time»)) ⌝ }
+    ensures { λ _. ⌜ now (floats .exit) ≡ callFloats (now (numbers .entry)) (now (floats .entry)) (answered (Reset «stream_start_time»)) ⌝ }
 {
     vad_door::reset(numbers, floats, stream_start_time)
 }
@@ -97,14 +99,14 @@ pub extern "C" fn fallowcart_vad_reset(
 // The readings carry their value.
 #[no_mangle]
 pub extern "C" fn fallowcart_vad_undecided_from(numbers: &[u64], floats: &[f32]) -> u64
-    ensures { λ r. ⌜ r ≡ undecidedAnswer (now (numbers .entry)) (now (floats .entry)) ⌝ }
+    ensures { λ r. ⌜ r ≡ readAnswer (now (numbers .entry)) (now (floats .entry)) undecidedRead ⌝ }
 {
     vad_door::undecided_from(numbers, floats)
 }
 
 #[no_mangle]
 pub extern "C" fn fallowcart_vad_analyzed_until(numbers: &[u64], floats: &[f32]) -> u64
-    ensures { λ r. ⌜ r ≡ analyzedAnswer (now (numbers .entry)) (now (floats .entry)) ⌝ }
+    ensures { λ r. ⌜ r ≡ readAnswer (now (numbers .entry)) (now (floats .entry)) analyzedRead ⌝ }
 {
     vad_door::analyzed_until(numbers, floats)
 }
@@ -119,14 +121,14 @@ pub extern "C" fn fallowcart_vad_active_segment_start_sample(numbers: &[u64], fl
 
 #[no_mangle]
 pub extern "C" fn fallowcart_vad_rows_reported(numbers: &[u64], floats: &[f32]) -> u64
-    ensures { λ r. ⌜ r ≡ rowsAnswer (now (numbers .entry)) (now (floats .entry)) ⌝ }
+    ensures { λ r. ⌜ r ≡ readAnswer (now (numbers .entry)) (now (floats .entry)) rowsRead ⌝ }
 {
     vad_door::rows_reported(numbers, floats)
 }
 
 #[no_mangle]
 pub extern "C" fn fallowcart_vad_talk_samples(numbers: &[u64], floats: &[f32]) -> u64
-    ensures { λ r. ⌜ r ≡ talkAnswer (now (numbers .entry)) (now (floats .entry)) ⌝ }
+    ensures { λ r. ⌜ r ≡ readAnswer (now (numbers .entry)) (now (floats .entry)) talkRead ⌝ }
 {
     vad_door::talk_samples(numbers, floats)
 }

@@ -2,7 +2,7 @@
 ghost use mathlib.Core.Path.{_≡_};
 ghost use Rattle.vad_config.specs.Lengths.{frameLengthOf, hopLengthOf, warmupFramesOf, paddingSamplesOf, timeOfSampleOf};
 ghost use Rattle.vad_config.specs.Settings.{refusalOf};
-ghost use Rattle.fallowcart.specs.Settings.{settingsOf};
+ghost use Rattle.vad_config.specs.Config.{settingsOf};
 use crate::config::collected;
 
 #[no_mangle]

@@ -199,16 +199,16 @@ round-sign : (f : Format) (a b : ℕ) → sign (round f false a b) ≡ false
 round-sign f a b = ap sign (round-signed f false a b) ∙ plus-signed (round f false a b)
 
 -- ---- what `le` says of two sizes, for like signs
-either : {P : Type 0} (a b c : Bool) → (T a → P) → (T b → P) → T (a || (b && c)) → P
-either true b c f g t = f tt
-either false true c f g t = g tt
-either false false c f g t = absurd t
+or-and : {P : Type 0} (a b c : Bool) → (T a → P) → (T b → P) → T (a || (b && c)) → P
+or-and true b c f g t = f tt
+or-and false true c f g t = g tt
+or-and false false c f g t = absurd t
 
 or-le : (a b : ℕ) → T (ltb a b || (eqb a b && true)) → a ≤ b
-or-le a b = either (ltb a b) (eqb a b) true (λ t. le-of-lt (ltb→lt a b t)) (λ t. le-of-eq (eqb→eq a b t))
+or-le a b = or-and (ltb a b) (eqb a b) true (λ t. le-of-lt (ltb→lt a b t)) (λ t. le-of-eq (eqb→eq a b t))
 
 or-ge : (a b : ℕ) → T (ltb b a || (eqb a b && true)) → b ≤ a
-or-ge a b = either (ltb b a) (eqb a b) true (λ t. le-of-lt (ltb→lt b a t)) (λ t. le-of-eq (sym (eqb→eq a b t)))
+or-ge a b = or-and (ltb b a) (eqb a b) true (λ t. le-of-lt (ltb→lt b a t)) (λ t. le-of-eq (sym (eqb→eq a b t)))
 
 -- a sign + and a comparison give a bound. Neither an infinity with the sign + nor a NaN is at most a finite value
 pub low-of-le : (x b : Float) (n d : ℕ) → sign x ≡ false → HasValue b false n d → T (le x b) → Low x n d

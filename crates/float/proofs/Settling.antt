@@ -14,7 +14,7 @@ use Rattle.float.specs.declared.Rounded.the-variants.{Finite}
 use Rattle.float.specs.Fused.{fusedOf}
 use Rattle.float.specs.Inside.{magOf, negOf}
 use Rattle.float.specs.Settled.{normalSize, cutOf, upOf, evenedOf, exactOf, settledBy, quickOf}
-use Rattle.float.proofs.Words.{both}
+use Rattle.lists.proofs.Tests.{both}
 use Rattle.float.proofs.Sticky.{side}
 use Rattle.float.proofs.Decode.{decoded}
 use Rattle.float.proofs.Align.{sum-is}

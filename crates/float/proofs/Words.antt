@@ -3,7 +3,7 @@ use mathlib.Core.Path.{_≡_, refl, sym, ap, _∙_, subst}
 use Prim.Native.Nat.{ℕ, _-_, _*_, _/_, _%_, _^_, _≤_, _<_}
 use native.Mathlib.Nat.{one-mul, div-lt-iff-lt-mul}
 use native.Mathlib.Omega.{arith}
-use mathlib.Core.Bool.{Bool, true, false, true≢false, _&&_, not}
+use mathlib.Core.Bool.{Bool, true, false, not}
 use lib.Dec.{T, eqb, eqb-refl, lit<}
 use lib.Arith.{lt-one}
 use lib.Bits.{bitAnd, and-mask}
@@ -37,11 +37,6 @@ differs (inf true) = refl
 differs (inf false) = refl
 differs (fin true m e) = simp (self (m * up e * down e))
 differs (fin false m e) = simp (self (m * up e * down e))
-
--- the parts of a && b
-pub both : (a b : Bool) → a && b ≡ true → (a ≡ true) × (b ≡ true)
-both true b h = (refl, h)
-both false b h = absurd (true≢false (sym h))
 
 pub T-not-of : {b : Bool} → b ≡ false → T (not b)
 T-not-of {b} h = subst (λ (t : Bool). T (not t)) (sym h) tt

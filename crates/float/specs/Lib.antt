@@ -1,3 +1,4 @@
+pub mod Numbers
 pub mod Finite
 pub mod Fused
 pub mod Root

@@ -1,4 +1,4 @@
--- Demand 3 says something: each wrong detector of specs/Wrong breaks its sentence in the run of specs/Example, and ours keeps all of them there. Assumes nothing.
+-- Demand 3 says something: each wrong detector of proofs/Wrong breaks its sentence in the run of proofs/Example, and ours keeps all of them there. Assumes nothing.
 use mathlib.Core.Path.{_≡_, refl, sym, ap, subst}
 use mathlib.Core.Bool.{true≢false}
 use mathlib.Core.List.{List, [], _∷_}
@@ -7,17 +7,19 @@ use native.Mathlib.Omega.{arith}
 use lib.ListN.{length}
 use lib.Ieee.{ofInt, add, mul, div, round}
 use Rattle.float.specs.Whole.{roundOf}
-use Rattle.lists.specs.Every.{Every, every-map, every-all}
-use Rattle.vad_config.specs.Domain.{rateIn, durationIn}
+use Rattle.lists.specs.Every.{Every}
+use Rattle.lists.proofs.Every.{every-map, every-all}
+use Rattle.ranges.specs.Ranges.{rateIn}
+use Rattle.vad_config.specs.Domain.{durationIn}
 use Rattle.vad_config.specs.Lengths.{frameLength, frameLengthOf, secondsOf, paddingSamplesOf}
 use Rattle.vad_config.specs.Settings.{frameOf, paddingOf}
-use Rattle.vad_segments.specs.Closing.{talkOf}
+use Rattle.vad_row.specs.Rows.{talkIn, talkOf, InOrder}
 use Rattle.vad_segments.specs.Judging.{countOf}
-use Rattle.vad_segments.specs.declared.SpeechChunk.{SpeechChunk}
+use Rattle.vad_row.specs.declared.Row.{Row}
 use Rattle.promises.specs.Log.{Seen}
-use Rattle.promises.specs.Demand.{AtEachAfter, AtEach, soundIn, rowsIn, loudsIn, flushedIn, InOrder, Within, NotBefore, Onward, warmedUp, Trails, oneLoud, LatelyLoud, Counted, Never19, Promised}
-use Rattle.promises.specs.Example.{settings, window, rise, calls, run, shown}
-use Rattle.promises.specs.Wrong.{changedAfter, changed, answers, reads, counting, lastRows, writesTwice, longer, padsOn, forgetsPadding, fallsBack, staysAtZero, lastOpen, closesLate, countsRefused, allLoud, rowsSoFar, rowsByCalls, talkTooLong, hearsNobody, breaksDown, wrong}
+use Rattle.promises.specs.Demand.{AtEachAfter, AtEach, soundIn, rowsIn, loudsIn, flushedIn, Within, NotBefore, Onward, warmedUp, Trails, oneLoud, LatelyLoud, Counted, Never19, Promised}
+use Rattle.promises.proofs.Example.{settings, window, rise, calls, run, shown}
+use Rattle.promises.proofs.Wrong.{changedAfter, changed, answers, reads, counting, lastRows, writesTwice, longer, padsOn, forgetsPadding, fallsBack, staysAtZero, lastOpen, closesLate, countsRefused, allLoud, rowsSoFar, rowsByCalls, talkTooLong, hearsNobody, breaksDown, wrong}
 use Rattle.promises.proofs.Demand3.{demand-3}
 use Rattle.promises.proofs.Shown.{opening-accepted, handed, run-is}
 
@@ -90,7 +92,7 @@ rows-by-calls = fails-at Counted rowsByCalls (λ h. omega arith)
 
 -- .. and the first row has 16 samples, not 17
 pub talk-too-long : AtEach Counted (changed talkTooLong run) → ⊥
-unfolding changed changedAfter talkTooLong reads rowsIn talkOf
+unfolding changed changedAfter talkTooLong reads rowsIn talkOf talkIn
 talk-too-long = fails-at Counted talkTooLong (λ h. omega arith)
 
 -- the definition has a row
@@ -98,7 +100,7 @@ pub hears-nobody : AtEach Counted (changed hearsNobody run) → ⊥
 unfolding changed changedAfter hearsNobody counting answers reads
 hears-nobody = fails-at Counted hearsNobody (λ h. absurd (none (h .1 .1 .1 .1 .1 .1 .0 .written)))
   where
-    none : {r : SpeechChunk} {rs : List SpeechChunk} → [] ≡ r ∷ rs → ⊥
+    none : {r : Row} {rs : List Row} → [] ≡ r ∷ rs → ⊥
     none e = omega (arith, ap length e)
 
 -- the call after the first row answers 19

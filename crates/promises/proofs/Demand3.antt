@@ -4,35 +4,36 @@ use mathlib.Core.Logic.{⊎-elim}
 use mathlib.Core.Bool.{Bool, true, false, not, true≢false}
 use mathlib.Core.List.{List, [], _∷_, _++_, map, reverse, reverseAux, reverseAux-eq}
 use Prim.Native.Nat.{ℕ, zero, suc, _+_, _*_, _≤_, _<_}
-use native.Mathlib.Nat.{le-trans, suc-mul, mul-le-mul-right}
+use native.Mathlib.Nat.{suc-mul, mul-le-mul-right}
 use native.Mathlib.Omega.{arith}
 use borrow.Author.Tests.{lt-leb}
 use lib.ListN.{length, take, getD, length-append}
 use lib.Ieee.{Float}
-use Rattle.lists.specs.Every.{Every, every-map}
+use Rattle.lists.specs.Every.{Every}
+use Rattle.lists.proofs.Every.{every-map}
 use Rattle.vad_config.specs.Settings.{frameOf, paddingOf, lengthsOf}
 use Rattle.vad_config.specs.declared.VadConfig.{VadConfig}
 use Rattle.vad_config.specs.declared.Lengths.{Lengths}
-use Rattle.vad_segments.specs.Closing.{talkOf}
+use Rattle.vad_row.specs.Rows.{talkOf, InOrder}
+use Rattle.vad_segments.specs.Setters.{freshTrack}
 use Rattle.vad_segments.specs.Judging.{countOf}
 use Rattle.vad_segments.specs.Positions.{undecidedOf}
 use Rattle.vad_segments.specs.declared.Rules.{Rules}
 use Rattle.vad_segments.specs.declared.ActiveSegment.{ActiveSegment}
 use Rattle.vad_segments.specs.declared.ActiveSegment.the-variants.{Closed, Open}
-use Rattle.vad_segments.specs.declared.SpeechChunk.{SpeechChunk}
 use Rattle.vad_segments.specs.declared.Track.{Track}
-use Rattle.vad_segments.proofs.Ordered.{talk-append, in-order-ends, InOrder as Between}
+use Rattle.vad_row.proofs.Laws.{talk-append, in-order-sooner, in-order-append, between-ends}
 use Rattle.vad_segments.proofs.Counts.{ActiveCounted, Recent}
 use Rattle.vad_segments.proofs.Undecided.{undecided-trails}
 use Rattle.vad_state.specs.declared.VadDetector.{VadDetector}
-use Rattle.vad_call.specs.Calls.{advancedOf}
-use Rattle.vad_detector.specs.Opening.{rulesOf, freshTrack, freshOf, openOf, Handed, restartedOf, resetTo, resetOf}
+use Rattle.vad_call.specs.Calls.{deskAfter, joinedOf, advancedOf}
+use Rattle.vad_detector.specs.Opening.{rulesOf, freshOf, openOf, Handed, restartedOf, resetTo, resetOf}
 use Rattle.vad_detector.specs.Readings.{undecidedIn, openStart}
 use Rattle.vad_detector.specs.Run.{Call, Detect, Flush, Reset, next, play}
 use Rattle.vad_detector.proofs.Running.{Running}
 use Rattle.vad_detector.proofs.Runs.{opened-is, open-running, detect-ends, flush-ends, reset-ends, reset-running, run-running}
 use Rattle.promises.specs.Log.{Turn, Seen, answerOf, seenOf, logOf, seenOpened, runOf}
-use Rattle.promises.specs.Demand.{AtEachAfter, AtEach, soundIn, rowsIn, loudsIn, flushedIn, totalOf, InOrder, Within, NotBefore, Onward, warmedUp, Trails, oneLoud, LatelyLoud, Counted, Never19, Promised}
+use Rattle.promises.specs.Demand.{AtEachAfter, AtEach, soundIn, rowsIn, loudsIn, flushedIn, totalOf, Within, NotBefore, Onward, warmedUp, Trails, oneLoud, LatelyLoud, Counted, Never19, Promised}
 use Rattle.promises.proofs.Turns.{Moves, opened-moves, turn-moves}
 
 -- ---- flags, the latest first
@@ -66,36 +67,28 @@ not-open Closed e = refl
 not-open (Open s) e = absurd (true≢false e)
 
 -- ---- rows in order, the rows of each call after those before it
-sooner : (a b : ℕ) (rs : List SpeechChunk) → a ≤ b → InOrder b rs → InOrder a rs
-sooner a b [] l h = tt
-sooner a b (r ∷ rs) l h = (le-trans l (h .0), h .1, h .2)
-
-joined : (a b : ℕ) (rs ss : List SpeechChunk) → Between a rs b → InOrder b ss → InOrder a (rs ++ ss)
-joined a b [] ss h g = sooner a b ss h g
-joined a b (r ∷ rs) ss h g = (h .0, h .1, joined (r .«end_sample») b rs ss (h .2) g)
-
-log-order : (ks : List Turn) (d : VadDetector) → Running d → InOrder (d .track .«last_segment_end») (rowsIn (logOf d ks))
+log-order : (ks : List Turn) (d : VadDetector) → Running d → InOrder (d .kept .desk .track .«last_segment_end») (rowsIn (logOf d ks))
 unfolding logOf rowsIn
 log-order [] d r = tt
-log-order (k ∷ ks) d r = let m = turn-moves d k r in joined _ _ (seenOf d k .rows) (rowsIn (logOf (answerOf d k .detector) ks)) (m .in-order) (log-order ks (answerOf d k .detector) (m .running))
+log-order (k ∷ ks) d r = let m = turn-moves d k r in in-order-append _ _ (seenOf d k .rows) (rowsIn (logOf (answerOf d k .detector) ks)) (m .in-order) (log-order ks (answerOf d k .detector) (m .running))
 
 run-order : (ks : List Turn) (d : VadDetector) → Running d → InOrder 0 (rowsIn (runOf d ks))
 unfolding runOf rowsIn
-run-order ks d r = sooner 0 (d .track .«last_segment_end») (rowsIn (runOf d ks)) (omega arith) (joined _ _ (seenOpened d .rows) (rowsIn (logOf d ks)) (opened-moves d r .in-order) (log-order ks d r))
+run-order ks d r = in-order-sooner 0 (d .kept .desk .track .«last_segment_end») (rowsIn (runOf d ks)) (omega arith) (in-order-append _ _ (seenOpened d .rows) (rowsIn (logOf d ks)) (opened-moves d r .in-order) (log-order ks d r))
 
 -- ---- a state, and what was seen before it: the latest first
 record Story (c : VadConfig) (before : List Seen) (d : VadDetector) : Type 0 where
   running : Running d
-  settings : d .rules .config ≡ c
-  sound : soundIn before ≡ d .«processed_samples»
+  settings : d .kept .rules .config ≡ c
+  sound : soundIn before ≡ d .kept .stream .«processed_samples»
   given : Every (λ e. e .undecided ≤ undecidedIn d) before
-  unflushed : d .warming ≡ true → flushedIn before ≡ false
-  recent : Recent (loudsIn before) (d .track .«active_segment»)
+  unflushed : d .kept .desk .warming ≡ true → flushedIn before ≡ false
+  recent : Recent (loudsIn before) (d .kept .desk .track .«active_segment»)
   frames : totalOf (λ e. e .tally .frames) before ≡ length (loudsIn before)
   loud : totalOf (λ e. e .tally .loud) before ≡ countOf (loudsIn before)
   quiet : totalOf (λ e. e .tally .quiet) before ≡ countOf (map not (loudsIn before))
-  rows : d .track .«rows_reported» ≡ length (rowsIn before)
-  talk : d .track .«talk_samples» ≡ talkOf (rowsIn before)
+  rows : d .kept .desk .track .«rows_reported» ≡ length (rowsIn before)
+  talk : d .kept .desk .track .«talk_samples» ≡ talkOf (rowsIn before)
 
 module _ (c : VadConfig) (before : List Seen) (d e : VadDetector) (s : Seen) (k : Story c before d) (m : Moves d e s) where
   -- a call goes on with it
@@ -116,11 +109,11 @@ module _ (c : VadConfig) (before : List Seen) (d e : VadDetector) (s : Seen) (k 
   }
 
   -- its lengths are those of the settings
-  lengths-on : e .rules .lengths ≡ lengthsOf c
+  lengths-on : e .kept .rules .lengths ≡ lengthsOf c
   lengths-on = m .running .lengths ∙ ap lengthsOf (on .settings)
 
   within : Within before s
-  within = every-map _ _ (λ r l. omega (arith, on .sound, m .running .ordered .ended)) (s .rows) (in-order-ends _ (s .rows) _ (m .in-order))
+  within = every-map _ _ (λ r l. omega (arith, on .sound, m .running .ordered .ended)) (s .rows) (between-ends _ (s .rows) _ (m .in-order))
 
   not-before : NotBefore before s
   not-before = every-map _ _ (λ g l. every-map _ _ (λ r n. omega arith) (s .rows) (m .rows-from)) before (k .given)
@@ -129,36 +122,36 @@ module _ (c : VadConfig) (before : List Seen) (d e : VadDetector) (s : Seen) (k 
   onward = every-map _ _ (λ g l. omega (arith, m .onward, m .shown .undecided)) before (k .given)
 
   -- while frames are held, they lie hop by hop from the stream's start, and are fewer than the warm-up's; so warm-up has not ended
-  warm : e .warming ≡ true → warmedUp c (s ∷ before) ≡ false
+  warm : e .kept .desk .warming ≡ true → warmedUp c (s ∷ before) ≡ false
   unfolding warmedUp lengthsOf
   warm w =
       let held = m .running .held w in
-      let hop = e .rules .lengths .«hop_length» in
-      let most : suc (e .held) * hop ≤ e .rules .lengths .«warmup_frames» * hop = mul-le-mul-right hop (held .few) in
+      let hop = e .kept .rules .lengths .«hop_length» in
+      let most : suc (e .kept .desk .held) * hop ≤ e .kept .rules .lengths .«warmup_frames» * hop = mul-le-mul-right hop (held .few) in
       let few = subst (λ (l : Lengths). soundIn (s ∷ before) + l .«hop_length» < l .«frame_length» + l .«warmup_frames» * l .«hop_length») lengths-on
-      (omega (arith, suc-mul (e .held) hop, held .start, on .sound, m .running .joined, m .running .short)) in
+      (omega (arith, suc-mul (e .kept .desk .held) hop, held .start, on .sound, m .running .joined, m .running .short)) in
       rw (on .unflushed w, lt-leb _ _ few)
 
   -- afterwards fewer samples than a frame are carried
   trails : Trails c before s
   unfolding undecidedIn lengthsOf
-  trails warmed none = go (e .warming) refl
+  trails warmed none = go (e .kept .desk .warming) refl
     where
       t : Track
-      t = e .track
+      t = e .kept .desk .track
 
       padding : ℕ
-      padding = e .rules .lengths .«padding_samples»
+      padding = e .kept .rules .lengths .«padding_samples»
 
-      go : (b : Bool) → e .warming ≡ b → soundIn (s ∷ before) < s .undecided + (frameOf c + paddingOf c)
+      go : (b : Bool) → e .kept .desk .warming ≡ b → soundIn (s ∷ before) < s .undecided + (frameOf c + paddingOf c)
       go true w = absurd (true≢false (sym warmed ∙ warm w))
       go false off =
-          let position : s .undecided ≡ undecidedOf false padding (e .«carry_start») t = m .shown .undecided ∙ ap (λ (b : Bool). undecidedOf b padding (e .«carry_start») t) off in
-          let free = undecided-trails padding (e .«carry_start») t (e .«carry_len») (e .rules .lengths .«frame_length») (not-open (t .«active_segment») (sym (m .shown .segment) ∙ none)) (m .running .short) in
+          let position : s .undecided ≡ undecidedOf false padding (e .kept .stream .«carry_start») t = m .shown .undecided ∙ ap (λ (b : Bool). undecidedOf b padding (e .kept .stream .«carry_start») t) off in
+          let free = undecided-trails padding (e .kept .stream .«carry_start») t (e .kept .stream .«carry_len») (e .kept .rules .lengths .«frame_length») (not-open (t .«active_segment») (sym (m .shown .segment) ∙ none)) (m .running .short) in
           subst (λ (l : Lengths). soundIn (s ∷ before) < s .undecided + (l .«frame_length» + l .«padding_samples»)) lengths-on (omega (arith, on .sound, m .running .joined))
 
   lately-loud : LatelyLoud c before s
-  lately-loud o = rw (sym (on .settings)) (lately (e .rules .config .«hangover_frames») (loudsIn (s ∷ before)) (e .track .«active_segment») (m .running .counted) (on .recent) (sym (m .shown .segment) ∙ o))
+  lately-loud o = rw (sym (on .settings)) (lately (e .kept .rules .config .«hangover_frames») (loudsIn (s ∷ before)) (e .kept .desk .track .«active_segment») (m .running .counted) (on .recent) (sym (m .shown .segment) ∙ o))
 
   counted : Counted before s
   counted = record {
@@ -205,7 +198,7 @@ promised c d ks h = record {
 -- ---- a fresh state
 
 -- nothing was heard, and nothing seen
-fresh-story : (r : Rules) (window : List Float) (d : VadDetector) → d ≡ freshOf r window → Running d → Story (d .rules .config) [] d
+fresh-story : (r : Rules) (window : List Float) (d : VadDetector) → d ≡ freshOf r window → Running d → Story (d .kept .rules .config) [] d
 unfolding freshOf freshTrack soundIn loudsIn flushedIn rowsIn totalOf countOf talkOf
 fresh-story r window d e running = record {
   running = running;
@@ -227,24 +220,24 @@ unfolding freshOf rulesOf
 demand-3 c window rise ks z f =
     let d = openOf c window rise .detector in
     let e = opened-is c window rise z in
-    subst (λ (s : VadConfig). Promised s (runOf d ks)) (ap (λ (x : VadDetector). x .rules .config) e) (promised (d .rules .config) d ks (fresh-story (rulesOf c rise) window d e (open-running c window rise z f)))
+    subst (λ (s : VadConfig). Promised s (runOf d ks)) (ap (λ (x : VadDetector). x .kept .rules .config) e) (promised (d .kept .rules .config) d ks (fresh-story (rulesOf c rise) window d e (open-running c window rise z f)))
 
 -- ---- after a reset
 
 -- calls keep the settings, but for the stream's start
-next-settings : (d : VadDetector) (k : Call) (start : ℕ) → restartedOf (next d k .rules .config) start ≡ restartedOf (d .rules .config) start
-unfolding next advancedOf resetTo freshOf restartedOf
+next-settings : (d : VadDetector) (k : Call) (start : ℕ) → restartedOf (next d k .kept .rules .config) start ≡ restartedOf (d .kept .rules .config) start
+unfolding next joinedOf deskAfter advancedOf resetTo freshOf restartedOf
 next-settings d k start = go k
   where
     same : VadDetector → VadConfig
-    same e = restartedOf (e .rules .config) start
+    same e = restartedOf (e .kept .rules .config) start
 
     go : (k : Call) → same (next d k) ≡ same d
     go (Detect xs room) = ⊎-elim (λ e. ap same (e .2)) (λ e. ap same (e .1)) (detect-ends d xs room)
     go (Flush room) = ⊎-elim (λ e. ap same (e .2)) (λ e. ap same (e .1)) (flush-ends d room)
     go (Reset new) = ⊎-elim (λ e. ap same (e .2)) (λ e. ap same (e .1)) (reset-ends d new)
 
-play-settings : (cs : List Call) (d : VadDetector) (start : ℕ) → restartedOf (play d cs .rules .config) start ≡ restartedOf (d .rules .config) start
+play-settings : (cs : List Call) (d : VadDetector) (start : ℕ) → restartedOf (play d cs .kept .rules .config) start ≡ restartedOf (d .kept .rules .config) start
 unfolding play
 play-settings [] d start = refl
 play-settings (k ∷ cs) d start = play-settings cs (next d k) start ∙ next-settings d k start
@@ -259,5 +252,5 @@ demand-3-again c window rise cs start ks z f a =
     let e = resetOf d start .detector in
     let r = reset-running d start (run-running c window rise cs z f) in
     let new : e ≡ resetTo d start = ⊎-elim (λ k. k .2) (λ k. absurd (k .0 a)) (reset-ends d start) in
-    let settings : e .rules .config ≡ restartedOf c start = ap (λ (x : VadDetector). x .rules .config) new ∙ play-settings cs o start ∙ ap (λ (x : VadDetector). restartedOf (x .rules .config) start) (opened-is c window rise z) in
-    subst (λ (x : VadConfig). Promised x (runOf e ks)) settings (promised (e .rules .config) e ks (fresh-story _ _ e new r))
+    let settings : e .kept .rules .config ≡ restartedOf c start = ap (λ (x : VadDetector). x .kept .rules .config) new ∙ play-settings cs o start ∙ ap (λ (x : VadDetector). restartedOf (x .kept .rules .config) start) (opened-is c window rise z) in
+    subst (λ (x : VadConfig). Promised x (runOf e ks)) settings (promised (e .kept .rules .config) e ks (fresh-story _ _ e new r))

@@ -9,23 +9,27 @@ use borrow.Author.Tests.{eqb-true, eqb-false, ne-eqb}
 use lib.Dec.{eqb}
 use lib.ListN.{length}
 use lib.Ieee.{Float}
-use Rattle.lists.specs.Every.{Every, every-all}
+use Rattle.lists.specs.Every.{Every}
+use Rattle.lists.proofs.Every.{every-all}
 use Rattle.float.proofs.Bounds.{Mag}
-use Rattle.vad_segments.specs.Closing.{talkOf}
+use Rattle.vad_row.specs.Rows.{talkOf}
 use Rattle.vad_segments.specs.Judging.{countOf}
 use Rattle.vad_classify.specs.Classify.{classifiedOf}
 use Rattle.vad_segments.specs.Positions.{undecidedOf}
 use Rattle.vad_segments.specs.declared.ActiveSegment.{ActiveSegment}
 use Rattle.vad_segments.specs.declared.ActiveSegment.the-variants.{Closed, Open}
 use Rattle.vad_segments.specs.declared.FrameMetrics.{FrameMetrics}
-use Rattle.vad_segments.specs.declared.SpeechChunk.{SpeechChunk}
-use Rattle.vad_segments.proofs.Ordered.{InOrder, RowsFrom, either, in-order-wider, call-in-order, call-rows-counted, call-talk-counted}
+use Rattle.vad_row.specs.declared.Row.{Row}
+use Rattle.vad_row.proofs.Laws.{Between, RowsFrom, between-wider}
+use Rattle.lists.proofs.Tests.{either}
+use Rattle.vad_segments.proofs.Ordered.{call-in-order, call-rows-counted, call-talk-counted}
 use Rattle.vad_segments.proofs.Counts.{Recent, recent-call, louds-length}
 use Rattle.vad_segments.proofs.Undecided.{undecided-rows, undecided-mono}
 use Rattle.vad_state.specs.declared.VadDetector.{VadDetector}
-use Rattle.vad_call.specs.Calls.{measuredOf, carryAfter, progressOf, holdingWith, holdingOf, keptOf, dueOf, seededOf, framesDue, verdictOf, rowsDue, rowsOfCall, advancedOf, tallyOf, noTally, refusedBy, acceptedOf, tooMany, concludedOf, ranOf}
+use Rattle.vad_call.specs.Calls.{measuredOf, carryAfter, streamAfter, holdingWith, holdingOf, heldAfter, dueOf, seededOf, framesDue, verdictOf, rowsDue, rowsOfCall, deskAfter, joinedOf, advancedOf, tallyOf, noTally, refusedBy, acceptedOf, tooMany, concludedOf, ranOf}
 use Rattle.vad_call.specs.declared.Detected.{Detected}
-use Rattle.vad_detector.specs.Entries.{checkOf, detectOf, flushOf}
+use Rattle.vad_call.specs.Checks.{checkOf}
+use Rattle.vad_detector.specs.Entries.{detectOf, flushOf}
 use Rattle.vad_detector.specs.Readings.{readOf, undecidedIn, undecidedRead, rowsRead, talkRead, openStart, segmentRead}
 use Rattle.vad_detector.specs.Run.{numberOf, Detect as Detects}
 use Rattle.vad_detector.proofs.Running.{Running, running-accepted, frames-lie, frames-from, grid-carry, seeded-keeps, seeded-ordered, holding-says, ranTo, ran-running}
@@ -37,9 +41,9 @@ use Rattle.promises.specs.Log.{Turn, Detect, Flush, isFlush, blockOf, an
 -- the readings
 pub record Shown (d : VadDetector) (s : Seen) : Type 0 where
   pub undecided : s .undecided ≡ undecidedIn d
-  pub reported : s .reported ≡ d .track .«rows_reported»
-  pub talk : s .talk ≡ d .track .«talk_samples»
-  pub segment : s .segment ≡ openStart (d .track .«active_segment») .«is_open»
+  pub reported : s .reported ≡ d .kept .desk .track .«rows_reported»
+  pub talk : s .talk ≡ d .kept .desk .track .«talk_samples»
+  pub segment : s .segment ≡ openStart (d .kept .desk .track .«active_segment») .«is_open»
   pub readings : Every (λ n. n ≡ 0) (s .readings)
 
 unrefused : (a : ActiveSegment) → openStart a .refusal ≡ 0
@@ -48,30 +52,30 @@ unrefused Closed = refl
 unrefused (Open s) = refl
 
 -- a state of a run is sound, so it is read
-shown : (flush : Bool) (block : ℕ) (a : Detected) (rows : List SpeechChunk) (louds : List Bool) → Running (a .detector) → Shown (a .detector) (seenAs flush block a rows louds)
+shown : (flush : Bool) (block : ℕ) (a : Detected) (rows : List Row) (louds : List Bool) → Running (a .detector) → Shown (a .detector) (seenAs flush block a rows louds)
 unfolding seenAs undecidedRead rowsRead talkRead segmentRead readOf
 shown flush block a rows louds r =
     let h = running-sound (a .detector) r in
-    let read = unrefused (a .detector .track .«active_segment») in
+    let read = unrefused (a .detector .kept .desk .track .«active_segment») in
     record { undecided = rw h; reported = rw h; talk = rw h; segment = rw h; readings = rw h (refl, (refl, (refl, (read, tt)))) }
 
 -- ---- what a call does to a state d, and leaves as e
 pub record Moves (d e : VadDetector) (s : Seen) : Type 0 where
   pub running : Running e
-  pub rules : e .rules ≡ d .rules
+  pub rules : e .kept .rules ≡ d .kept .rules
   pub shown : Shown e s
-  pub sound : e .«processed_samples» ≡ d .«processed_samples» + cond (eqb (s .number) 0) (s .block) 0
-  pub in-order : InOrder (d .track .«last_segment_end») (s .rows) (e .track .«last_segment_end»)
+  pub sound : e .kept .stream .«processed_samples» ≡ d .kept .stream .«processed_samples» + cond (eqb (s .number) 0) (s .block) 0
+  pub in-order : Between (d .kept .desk .track .«last_segment_end») (s .rows) (e .kept .desk .track .«last_segment_end»)
   pub rows-from : RowsFrom (undecidedIn d) (s .rows)
   pub onward : undecidedIn d ≤ undecidedIn e
-  pub warming : e .warming ≡ true → (d .warming ≡ true) × ((s .flush && eqb (s .number) 0) ≡ false)
-  pub recent : (flags : List Bool) → Recent flags (d .track .«active_segment») → Recent (reverseAux (s .louds) flags) (e .track .«active_segment»)
+  pub warming : e .kept .desk .warming ≡ true → (d .kept .desk .warming ≡ true) × ((s .flush && eqb (s .number) 0) ≡ false)
+  pub recent : (flags : List Bool) → Recent flags (d .kept .desk .track .«active_segment») → Recent (reverseAux (s .louds) flags) (e .kept .desk .track .«active_segment»)
   pub frames : s .tally .frames ≡ length (s .louds)
   pub loud : s .tally .loud ≡ countOf (s .louds)
   pub quiet : s .tally .quiet ≡ countOf (map not (s .louds))
   pub rows : s .tally .rows ≡ length (s .rows)
-  pub all-rows : e .track .«rows_reported» ≡ d .track .«rows_reported» + length (s .rows)
-  pub all-talk : e .track .«talk_samples» ≡ d .track .«talk_samples» + talkOf (s .rows)
+  pub all-rows : e .kept .desk .track .«rows_reported» ≡ d .kept .desk .track .«rows_reported» + length (s .rows)
+  pub all-talk : e .kept .desk .track .«talk_samples» ≡ d .kept .desk .track .«talk_samples» + talkOf (s .rows)
   pub written : s .rows ≡ s .due
   pub never-19 : s .number ≡ 19 → ⊥
 
@@ -86,7 +90,7 @@ idle d s r h rows due louds tally sound flush number = record {
   rules = refl;
   shown = h;
   sound = omega arith;
-  in-order = rw rows (le-refl (d .track .«last_segment_end»));
+  in-order = rw rows (tt, le-refl (d .kept .desk .track .«last_segment_end»));
   rows-from = rw rows tt;
   onward = le-refl (undecidedIn d);
   warming = λ w. (w, flush);
@@ -108,7 +112,7 @@ opened-moves d r =
     idle d (seenOpened d) r (shown false 0 (record { refusal = record { number = 0; carries = 0 }; detector = d; tally = noTally }) [] [] r) refl refl refl refl refl refl (λ e. absurd (omega arith))
 
 -- a refused call
-refused-moves : (d : VadDetector) (flush : Bool) (block number carries : ℕ) (rows : List SpeechChunk) (louds : List Bool) → Running d → (number ≡ 0 → ⊥) → (number ≡ 19 → ⊥)
+refused-moves : (d : VadDetector) (flush : Bool) (block number carries : ℕ) (rows : List Row) (louds : List Bool) → Running d → (number ≡ 0 → ⊥) → (number ≡ 19 → ⊥)
     → Moves d d (seenAs flush block (refusedBy number carries d) rows louds)
 unfolding seenAs refusedBy unlessRefused
 refused-moves d flush block number carries rows louds r some known =
@@ -121,7 +125,7 @@ refused-moves d flush block number carries rows louds r some known =
     never false = refl
 
 -- 'Undecided position: 0 while warming.'
-position-zero : (d : VadDetector) → d .warming ≡ true → undecidedIn d ≡ 0
+position-zero : (d : VadDetector) → d .kept .desk .warming ≡ true → undecidedIn d ≡ 0
 unfolding undecidedIn undecidedOf
 position-zero d on = rw on
 
@@ -131,59 +135,59 @@ position-zero d on = rw on
 abbrev doneOf : Bool → VadDetector → List Float → Detected
 doneOf finish d xs =
     let es = measuredOf finish d xs in
-    acceptedOf d (progressOf finish d xs) (holdingOf finish d es) (carryAfter finish d xs) (keptOf finish d es) (verdictOf finish d (d .«processed_samples» + length xs) (dueOf finish d es)) (length (rowsOfCall finish d xs))
+    acceptedOf d (streamAfter finish d xs) (carryAfter finish d xs) (holdingOf finish (d .kept) es) (heldAfter finish (d .kept) es) (verdictOf finish (d .kept) (d .kept .stream .«processed_samples» + length xs) (dueOf finish (d .kept) es)) (length (rowsOfCall finish d xs))
 
-module _ (finish : Bool) (d : VadDetector) (xs : List Float) (r : Running d) (h : Every (λ x. Mag x 65536 1) xs) (room : d .«processed_samples» + length xs ≤ 2 ^ 40) where
+module _ (finish : Bool) (d : VadDetector) (xs : List Float) (r : Running d) (h : Every (λ x. Mag x 65536 1) xs) (room : d .kept .stream .«processed_samples» + length xs ≤ 2 ^ 40) where
   abbrev limit : ℕ
-  limit = d .«processed_samples» + length xs
+  limit = d .kept .stream .«processed_samples» + length xs
 
   abbrev due : List Float
-  due = dueOf finish d (measuredOf finish d xs)
+  due = dueOf finish (d .kept) (measuredOf finish d xs)
 
   abbrev frames : List FrameMetrics
-  frames = framesDue d limit due
+  frames = framesDue (d .kept) limit due
 
-  done-order : InOrder (d .track .«last_segment_end») (rowsOfCall finish d xs) (ranTo finish d xs .track .«last_segment_end»)
-  unfolding rowsOfCall rowsDue advancedOf verdictOf classifiedOf
+  done-order : Between (d .kept .desk .track .«last_segment_end») (rowsOfCall finish d xs) (ranTo finish d xs .kept .desk .track .«last_segment_end»)
+  unfolding rowsOfCall rowsDue joinedOf deskAfter advancedOf verdictOf classifiedOf
   done-order =
-      in-order-wider _ _ _ _ (rowsOfCall finish d xs) (omega (arith, seeded-keeps d due .0)) (le-refl (ranTo finish d xs .track .«last_segment_end»))
-      (call-in-order (d .rules) limit (running-accepted d r) room finish (seededOf d due) frames (seeded-ordered d xs due r) (frames-lie finish d xs r))
+      between-wider _ _ _ _ (rowsOfCall finish d xs) (omega (arith, seeded-keeps d due .0)) (le-refl (ranTo finish d xs .kept .desk .track .«last_segment_end»))
+      (call-in-order (d .kept .rules) limit (running-accepted d r) room finish (seededOf (d .kept) due) frames (seeded-ordered d xs due r) (frames-lie finish d xs r))
 
   -- once warm-up has ended nothing is seeded or held, and frames begin at the carry
-  module _ (off : d .warming ≡ false) where
-    position-is : undecidedIn d ≡ undecidedOf false (d .rules .lengths .«padding_samples») (d .«carry_start») (seededOf d due)
+  module _ (off : d .kept .desk .warming ≡ false) where
+    position-is : undecidedIn d ≡ undecidedOf false (d .kept .rules .lengths .«padding_samples») (d .kept .stream .«carry_start») (seededOf (d .kept) due)
     unfolding undecidedIn seededOf
     position-is = rw off
 
-    position-after : undecidedIn (ranTo finish d xs) ≡ undecidedOf false (d .rules .lengths .«padding_samples») (ranTo finish d xs .«carry_start») (ranTo finish d xs .track)
-    unfolding undecidedIn advancedOf holdingOf holdingWith
+    position-after : undecidedIn (ranTo finish d xs) ≡ undecidedOf false (d .kept .rules .lengths .«padding_samples») (ranTo finish d xs .kept .stream .«carry_start») (ranTo finish d xs .kept .desk .track)
+    unfolding undecidedIn joinedOf deskAfter advancedOf holdingOf holdingWith
     position-after = rw off
 
-    starts-on : Every (λ f. d .«carry_start» ≤ f .«start_sample») frames
+    starts-on : Every (λ f. d .kept .stream .«carry_start» ≤ f .«start_sample») frames
     starts-on = subst (λ (n : ℕ). Every (λ f. n ≤ f .«start_sample») frames) (grid-carry d off) (frames-from d limit due)
 
     off-rows : RowsFrom (undecidedIn d) (rowsOfCall finish d xs)
     unfolding rowsOfCall rowsDue
-    off-rows = rw position-is (undecided-rows finish (d .rules) limit frames (seededOf d due) (d .«carry_start») (running-accepted d r) room (seeded-ordered d xs due r) (frames-lie finish d xs r) starts-on)
+    off-rows = rw position-is (undecided-rows finish (d .kept .rules) limit frames (seededOf (d .kept) due) (d .kept .stream .«carry_start») (running-accepted d r) room (seeded-ordered d xs due r) (frames-lie finish d xs r) starts-on)
 
     off-onward : undecidedIn d ≤ undecidedIn (ranTo finish d xs)
-    unfolding advancedOf verdictOf classifiedOf progressOf
+    unfolding joinedOf deskAfter advancedOf verdictOf classifiedOf streamAfter
     off-onward =
         rw (position-is, position-after)
-        (undecided-mono finish (d .rules) limit frames (seededOf d due) (d .«carry_start») (running-accepted d r) room (seeded-ordered d xs due r) (frames-lie finish d xs r) starts-on (ranTo finish d xs .«carry_start») (omega arith))
+        (undecided-mono finish (d .kept .rules) limit frames (seededOf (d .kept) due) (d .kept .stream .«carry_start») (running-accepted d r) room (seeded-ordered d xs due r) (frames-lie finish d xs r) starts-on (ranTo finish d xs .kept .stream .«carry_start») (omega arith))
 
   -- while warming the position is 0
   done-position : RowsFrom (undecidedIn d) (rowsOfCall finish d xs) × (undecidedIn d ≤ undecidedIn (ranTo finish d xs))
-  done-position = go (d .warming) refl
+  done-position = go (d .kept .desk .warming) refl
     where
-      go : (b : Bool) → d .warming ≡ b → RowsFrom (undecidedIn d) (rowsOfCall finish d xs) × (undecidedIn d ≤ undecidedIn (ranTo finish d xs))
+      go : (b : Bool) → d .kept .desk .warming ≡ b → RowsFrom (undecidedIn d) (rowsOfCall finish d xs) × (undecidedIn d ≤ undecidedIn (ranTo finish d xs))
       go true on = let z = position-zero d on in (every-all _ (λ c. omega arith) (rowsOfCall finish d xs), omega arith)
       go false off = (off-rows off, off-onward off)
 
   done-moves : Moves d (ranTo finish d xs) (seenAs finish (length xs) (doneOf finish d xs) (rowsOfCall finish d xs) (loudsOfCall finish d xs))
-  unfolding seenAs unlessRefused acceptedOf tallyOf advancedOf progressOf verdictOf classifiedOf rowsOfCall rowsDue loudsOfCall
+  unfolding seenAs unlessRefused acceptedOf tallyOf joinedOf deskAfter advancedOf streamAfter verdictOf classifiedOf rowsOfCall rowsDue loudsOfCall
   done-moves =
-      let t = seededOf d due in
+      let t = seededOf (d .kept) due in
       let kept = seeded-keeps d due in
       let on = ran-running finish d xs r h room in
       record {
@@ -195,13 +199,13 @@ module _ (finish : Bool) (d : VadDetector) (xs : List Float) (r : Running d) (h 
         rows-from = done-position .0;
         onward = done-position .1;
         warming = λ e. let says = holding-says finish d (measuredOf finish d xs) e in (says .0, rw (says .1));
-        recent = λ flags k. recent-call finish (d .rules) limit t frames flags (subst (Recent flags) (sym (kept .3)) k);
-        frames = sym (louds-length (d .rules) limit frames t);
+        recent = λ flags k. recent-call finish (d .kept .rules) limit t frames flags (subst (Recent flags) (sym (kept .3)) k);
+        frames = sym (louds-length (d .kept .rules) limit frames t);
         loud = refl;
         quiet = refl;
         rows = refl;
-        all-rows = omega (arith, call-rows-counted (d .rules) limit t frames finish, kept .1);
-        all-talk = omega (arith, call-talk-counted (d .rules) limit t frames finish, kept .2);
+        all-rows = omega (arith, call-rows-counted (d .kept .rules) limit t frames finish, kept .1);
+        all-talk = omega (arith, call-talk-counted (d .kept .rules) limit t frames finish, kept .2);
         written = refl;
         never-19 = λ e. absurd (omega arith);
       }
@@ -211,8 +215,8 @@ abbrev Answers : Bool → VadDetector → List Float → Detected → Type 0
 Answers finish d xs a = Moves d (a .detector) (seenAs finish (length xs) a (rowsOfCall finish d xs) (loudsOfCall finish d xs))
 
 -- refused by 18, or not
-ran-moves : (finish : Bool) (d : VadDetector) (xs : List Float) (room : ℕ) → Running d → Every (λ x. Mag x 65536 1) xs → d .«processed_samples» + length xs ≤ 2 ^ 40 → Answers finish d xs (ranOf finish d xs room)
-unfolding ranOf concludedOf progressOf rowsOfCall refusedBy acceptedOf
+ran-moves : (finish : Bool) (d : VadDetector) (xs : List Float) (room : ℕ) → Running d → Every (λ x. Mag x 65536 1) xs → d .kept .stream .«processed_samples» + length xs ≤ 2 ^ 40 → Answers finish d xs (ranOf finish d xs room)
+unfolding ranOf concludedOf streamAfter rowsOfCall refusedBy acceptedOf
 ran-moves finish d xs room r h most =
     let rows = rowsOfCall finish d xs in
     either (Answers finish d xs) (tooMany rows room) (refusedBy 18 (length rows) d) (doneOf finish d xs)

@@ -9,24 +9,25 @@ use lib.Dec.{eqb}
 use lib.ListN.{length, replicate, length-replicate}
 use lib.Seq.{sets}
 use lib.Ieee.{Float}
-use Rattle.vad_segments.specs.Closing.{roomOf, flat}
-use Rattle.vad_segments.specs.declared.SpeechChunk.{SpeechChunk}
-use Rattle.vad_segments.proofs.Laws.{flat-length, room-enough}
+use Rattle.vad_row.specs.Rows.{roomOf, flat}
+use Rattle.vad_row.specs.declared.Row.{Row}
+use Rattle.vad_row.proofs.Laws.{flat-length, room-enough}
 use Rattle.vad_state.specs.State.{soundOf}
 use Rattle.vad_state.specs.declared.VadDetector.{VadDetector}
-use Rattle.vad_call.specs.Calls.{progressOf, tallyOf, noTally, refusedBy, acceptedOf, tooMany, concludedOf, reportedIn, ranOf, rowsOfCall, writtenOf}
+use Rattle.vad_call.specs.Calls.{streamAfter, tallyOf, noTally, refusedBy, acceptedOf, tooMany, concludedOf, reportedIn, ranOf, rowsOfCall, writtenOf}
 use Rattle.vad_call.specs.declared.Detected.{Detected}
-use Rattle.vad_detector.specs.Entries.{checkOf, detectOf, detectRows, flushOf, flushRows}
+use Rattle.vad_call.specs.Checks.{checkOf}
+use Rattle.vad_detector.specs.Entries.{detectOf, detectRows, flushOf, flushRows}
 use Rattle.promises.specs.Log.{Turn, Detect, Flush, isFlush, blockOf, answerOf, unlessRefused, seenAs, seenOf}
 
 -- of a call with this answer, whose definition has these rows: the slice is left with those that are seen, they fit it, and the answer counts them
-record Leaves (out left : List ℕ) (a : Detected) (rows : List SpeechChunk) : Type 0 where
+record Leaves (out left : List ℕ) (a : Detected) (rows : List Row) : Type 0 where
   written : left ≡ sets out 0 (flat (unlessRefused (a .refusal .number) rows))
   fit : length (flat (unlessRefused (a .refusal .number) rows)) ≤ length out
   counted : a .tally .rows ≡ length (unlessRefused (a .refusal .number) rows)
 
 -- ---- over plain variables
-module _ (out : List ℕ) (rows : List SpeechChunk) where
+module _ (out : List ℕ) (rows : List Row) where
   -- a refused call leaves the slice
   refused : (number carries : ℕ) (d : VadDetector) → eqb number 0 ≡ false → Leaves out out (refusedBy number carries d) rows
   unfolding unlessRefused refusedBy noTally flat
@@ -46,7 +47,7 @@ module _ (out : List ℕ) (rows : List SpeechChunk) where
 
 -- ---- a call that is not refused before its frames are judged, then each entry
 ran : (finish : Bool) (d : VadDetector) (xs : List Float) (out : List ℕ) → Leaves out (writtenOf finish d xs out) (ranOf finish d xs (length out)) (rowsOfCall finish d xs)
-unfolding writtenOf reportedIn ranOf concludedOf rowsOfCall progressOf acceptedOf tallyOf
+unfolding writtenOf reportedIn ranOf concludedOf rowsOfCall streamAfter acceptedOf tallyOf
 ran finish d xs out =
     let rows = rowsOfCall finish d xs in
     chosen out rows (tooMany rows (length out)) out (sets out 0 (flat rows)) (refusedBy 18 (length rows) d) _ (λ h. refused out rows 18 (length rows) d refl) (λ h. taken out rows _ refl refl h)

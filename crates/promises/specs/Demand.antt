@@ -8,9 +8,9 @@ use lib.ListN.{length, take}
 use Rattle.lists.specs.Every.{Every}
 use Rattle.vad_config.specs.Settings.{frameOf, hopOf, warmupOf, paddingOf}
 use Rattle.vad_config.specs.declared.VadConfig.{VadConfig}
-use Rattle.vad_segments.specs.Closing.{talkOf}
+use Rattle.vad_row.specs.Rows.{talkOf, InOrder}
+use Rattle.vad_row.specs.declared.Row.{Row}
 use Rattle.vad_segments.specs.Judging.{countOf}
-use Rattle.vad_segments.specs.declared.SpeechChunk.{SpeechChunk}
 use Rattle.promises.specs.Log.{Seen}
 
 -- what holds of each call and of the calls before it, the latest of them first
@@ -29,7 +29,7 @@ soundIn [] = 0
 soundIn (s ∷ ss) = cond (eqb (s .number) 0) (s .block) 0 + soundIn ss
 
 -- all rows, call by call as listed: of a run in the order of time; of the calls before one, only their number and their lengths are asked
-unfoldable pub rowsIn : List Seen → List SpeechChunk
+unfoldable pub rowsIn : List Seen → List Row
 rowsIn [] = []
 rowsIn (s ∷ ss) = s .rows ++ rowsIn ss
 
@@ -50,10 +50,7 @@ totalOf count (s ∷ ss) = count s + totalOf count ss
 
 -- ---- the sentences
 
--- 1. 'Rows come out in order and never overlap': each starts where the one before it ended, or later, and ends past its start
-abbrev pub InOrder : ℕ → List SpeechChunk → Type 0
-InOrder from [] = Unit {0}
-InOrder from (r ∷ rs) = (from ≤ r .«start_sample») × (r .«start_sample» < r .«end_sample») × InOrder (r .«end_sample») rs
+-- 1. 'Rows come out in order and never overlap': `InOrder` of vad_row, of the rows of the whole run
 
 -- 2. 'They lie within the sound received.' By 1 a row starts before it ends.
 abbrev pub Within : List Seen → Seen → Type 0

@@ -6,7 +6,7 @@ use lib.Dec.{eqb}
 use lib.ListN.{length}
 use lib.Ieee.{Float}
 use Rattle.vad_segments.specs.Judging.{loudsOf}
-use Rattle.vad_segments.specs.declared.SpeechChunk.{SpeechChunk}
+use Rattle.vad_row.specs.declared.Row.{Row}
 use Rattle.vad_state.specs.declared.VadDetector.{VadDetector}
 use Rattle.vad_call.specs.Calls.{measuredOf, dueOf, seededOf, framesDue, rowsOfCall, noTally}
 use Rattle.vad_call.specs.declared.Tally.{Tally}
@@ -36,9 +36,9 @@ answerOf d (Flush room) = flushOf d room
 -- which of the frames that an accepted call judges are loud, in their order
 unfoldable pub loudsOfCall : Bool → VadDetector → List Float → List Bool
 loudsOfCall finish d xs =
-    let received = d .«processed_samples» + length xs in
-    let due = dueOf finish d (measuredOf finish d xs) in
-    loudsOf (d .rules) received (seededOf d due) (framesDue d received due)
+    let received = d .kept .stream .«processed_samples» + length xs in
+    let due = dueOf finish (d .kept) (measuredOf finish d xs) in
+    loudsOf (d .kept .rules) received (seededOf (d .kept) due) (framesDue (d .kept) received due)
 
 -- ---- one call
 pub record Seen : Type 0 where
@@ -47,7 +47,7 @@ pub record Seen : Type 0 where
   pub block : ℕ
   pub number : ℕ
   -- the rows written, and the counts answered
-  pub rows : List SpeechChunk
+  pub rows : List Row
   pub tally : Tally
   -- what `undecided_from`, `rows_reported` and `talk_samples` answer after the call, and `active_segment_start_sample`: is a segment open; and the refusal numbers of the four
   pub undecided : ℕ
@@ -57,14 +57,14 @@ pub record Seen : Type 0 where
   pub readings : List ℕ
   -- from demand 2's definition, whatever the detector shows: which of the call's frames are loud, and its rows
   pub louds : List Bool
-  pub due : List SpeechChunk
+  pub due : List Row
 
 -- a refused call writes nothing and judges nothing
 unfoldable pub unlessRefused : {A : Type 0} → ℕ → List A → List A
 unlessRefused number xs = cond (eqb number 0) xs []
 
 -- a call, by what it answers; the readings are those of the state after it
-unfoldable pub seenAs : Bool → ℕ → Detected → List SpeechChunk → List Bool → Seen
+unfoldable pub seenAs : Bool → ℕ → Detected → List Row → List Bool → Seen
 seenAs flush block a rows louds =
     record {
       flush = flush;

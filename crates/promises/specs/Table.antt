@@ -6,15 +6,17 @@ use Prim.Native.Nat.{ℕ}
 use lib.IntN.{negsuc}
 use lib.ListN.{replicate}
 use lib.Ieee.{Float, fin, binary32, ofBits}
+use Rattle.float.specs.Numbers.{one32}
 use Rattle.float.specs.Fused.{fusedOf}
 use Rattle.float.specs.Root.{rootOf}
 use Rattle.float.specs.declared.Rounded.the-variants.{Finite}
 use Rattle.score.specs.Score.{scoreOf}
 use Rattle.vad_config.specs.Lengths.{frameLengthOf, hopLengthOf, warmupFramesOf}
 use Rattle.vad_config.specs.declared.VadConfig.{VadConfig}
-use Rattle.vad_segments.specs.Closing.{flat}
+use Rattle.vad_row.specs.Rows.{rowWidth, flat}
+use Rattle.vad_state.specs.State.{half32}
 use Rattle.vad_detector.specs.Opening.{openOf}
-use Rattle.vad_runs.specs.Detector.{configOf, config, window, blockOf}
+use Rattle.vad_runs.specs.Detector.{configOf, config, window, blockOf, a, b, rowA, rowB}
 use Rattle.promises.specs.Log.{Turn, Detect, Flush, logOf}
 
 -- ---- what a line of the table says
@@ -34,19 +36,11 @@ pub data Case : Type 0 where
 
 -- 'Six detects of 80 equal samples: 1/64, 1/64, 1, 1, 1/64, 1/64; then flush'; nothing but the flush needs room
 abbrev pub calls : List Turn
-calls = map (λ k. Detect (blockOf k) 0) (0 ∷ 1 ∷ 2 ∷ 3 ∷ 4 ∷ 5 ∷ []) ++ (Flush 7 ∷ [])
-
--- 'rise 0.5', and the table's overlap
-abbrev pub half : Float
-half = ofBits binary32 0x3F00_0000
-
--- 'window all 1'
-abbrev pub one : Float
-one = ofBits binary32 0x3F80_0000
+calls = map (λ k. Detect (blockOf k) 0) (0 ∷ 1 ∷ 2 ∷ 3 ∷ 4 ∷ 5 ∷ []) ++ (Flush rowWidth ∷ [])
 
 abbrev pub Reports : ℕ → List ℕ → Type 0
 Reports release row =
-    let opened = openOf (config release) window half in
+    let opened = openOf (config release) window half32 in
     let log = logOf (opened .detector) calls in
     (opened .refusal ≡ 0) × (map (λ s. s .number) log ≡ replicate 7 0) × (map (λ s. flat (s .rows)) log ≡ replicate 6 [] ++ (row ∷ []))
 
@@ -56,7 +50,7 @@ Holds (Root x r) = rootOf x ≡ Finite r
 Holds (Frame ns rate n) = frameLengthOf rate ns ≡ n
 Holds (Hop frame overlap n) = hopLengthOf frame overlap ≡ n
 Holds (WarmUp hop rate n) = warmupFramesOf hop rate ≡ n
-Holds (Opening c n number) = openOf c (replicate n one) half .refusal ≡ number
+Holds (Opening c n number) = openOf c (replicate n one32) half32 .refusal ≡ number
 Holds (Score ratio n) = scoreOf ratio ≡ n
 Holds (Run release row) = Reports release row
 
@@ -83,7 +77,7 @@ two = ofBits binary32 0x4000_0000
 
 -- run A's settings but for the frame, 10 ms (80 samples), 1 ms (8) or 875 µs (7), and the two ratios, by their bits
 abbrev pub framed : ℕ → ℕ → ℕ → VadConfig
-framed frame activation release = configOf frame 5000000 activation release
+framed frame activation release = configOf 0 frame 5000000 activation release
 
 -- ---- the table, in document 01's order
 abbrev pub smallTable : List Case
@@ -93,17 +87,17 @@ smallTable =
     ∷ Root (ofBits binary32 0) (ofBits binary32 0)
     ∷ Root two (ofBits binary32 0x3FB5_04F3)
     ∷ Frame 20000000 16000 320
-    ∷ Hop 320 half 160
+    ∷ Hop 320 half32 160
     ∷ WarmUp 160 16000 30
-    ∷ Hop 5 half 3
+    ∷ Hop 5 half32 3
     ∷ Opening (framed 10000000 0x4080_0000 0x7F80_0000) 80 6
     ∷ Opening (framed 10000000 0x7F80_0000 0x7F80_0000) 80 6
-    ∷ Score one 0
+    ∷ Score one32 0
     ∷ Score (ofBits binary32 0x4120_0000) 1024
     ∷ WarmUp 8 8000 300
     ∷ Opening (framed 1000000 0x4080_0000 0x4000_0000) 8 0
     ∷ WarmUp 7 8000 343
     ∷ Opening (framed 875000 0x4080_0000 0x4000_0000) 7 12
-    ∷ Run 0x4000_0000 (120 ∷ 280 ∷ 15000000 ∷ 35000000 ∷ 1024 ∷ 1 ∷ 1065353216 ∷ [])
-    ∷ Run 0x3FC0_0000 (120 ∷ 360 ∷ 15000000 ∷ 45000000 ∷ 1325 ∷ 2 ∷ 1065353216 ∷ [])
+    ∷ Run a rowA
+    ∷ Run b rowB
     ∷ []

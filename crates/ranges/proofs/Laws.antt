@@ -1,17 +1,20 @@
--- What the count of leading numbers, and the test of all, say of each number. Assumes nothing.
+-- What the count of leading numbers, and the test of all, say of each number, and the test of the rate. Assumes nothing.
 use mathlib.Core.Path.{_≡_, refl, sym, ap, _∙_}
 use mathlib.Core.Bool.{Bool, true, false, _&&_, cond, true≢false}
 use mathlib.Core.List.{List, [], _∷_}
-use Prim.Native.Nat.{suc, _≤_}
+use Prim.Native.Nat.{ℕ, suc, _≤_}
 use native.Mathlib.Omega.{arith}
-use lib.Dec.{T}
+use lib.Dec.{T, leb}
 use lib.ListN.{length}
 use lib.Ieee.{Float, ofBits, le, neg}
 use lib.Ieee.Scale.{finite}
-use Rattle.lists.specs.Every.{Every, every-map}
-use Rattle.float.proofs.Words.{both, T-of}
+use borrow.Author.Tests.{leb-true}
+use Rattle.lists.specs.Every.{Every}
+use Rattle.lists.proofs.Every.{every-map}
+use Rattle.lists.proofs.Tests.{both}
+use Rattle.float.proofs.Words.{T-of}
 use Rattle.float.proofs.Bounds.{Mag, mag-of-range, mag-finite}
-use Rattle.ranges.specs.Ranges.{within, leadingOf, allWithin, limit, inDomain, cleanOf}
+use Rattle.ranges.specs.Ranges.{within, leadingOf, allWithin, limit, inDomain, cleanOf, rateIn}
 
 module _ (low high : Float) where
   pub leading-le : (xs : List Float) → leadingOf low xs high ≤ length xs
@@ -69,3 +72,7 @@ clean-mags xs h = every-map _ _ sample-mag xs (clean-all xs h)
 pub all-finite : (xs : List Float) → allWithin (neg limit) xs limit ≡ true → Every (λ (x : Float). T (finite x)) xs
 unfolding inDomain
 all-finite xs h = every-map _ _ (λ x w. mag-finite x 65536 1 (sample-mag x w)) xs (all-within (neg limit) limit xs h)
+
+pub rate-in : (rate : ℕ) → rateIn rate ≡ true → (8000 ≤ rate) × (rate ≤ 48000)
+unfolding rateIn
+rate-in rate h = let p = both (leb 8000 rate) (leb rate 48000) h in (leb-true 8000 rate (p .0), leb-true rate 48000 (p .1))

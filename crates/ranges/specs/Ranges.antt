@@ -1,7 +1,8 @@
--- Ranges of floats, ends included. Floats are compared as floats, so a NaN is in no range.
+-- Ranges of floats, ends included, and the domain of a sample and of the rate. Floats are compared as floats, so a NaN is in no range.
 use mathlib.Core.Bool.{Bool, true, _&&_, cond}
 use mathlib.Core.List.{List, [], _∷_}
 use Prim.Native.Nat.{ℕ, suc}
+use lib.Dec.{leb}
 use lib.Ieee.{Float, binary32, ofBits, le, neg}
 
 -- x in [low, high]
@@ -30,3 +31,9 @@ inDomain x = within (neg limit) x limit
 -- how many samples stand before the first outside the domain: the place that 16 carries
 unfoldable pub cleanOf : List Float → ℕ
 cleanOf xs = leadingOf (neg limit) xs limit
+
+-- ---- the domain of the rate
+
+-- 'Rate 8,000 to 48,000 Hz'
+unfoldable pub rateIn : ℕ → Bool
+rateIn rate = leb 8000 rate && leb rate 48000

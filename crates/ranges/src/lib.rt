@@ -1,7 +1,16 @@
-// Ranges of floats: one number, and a slice up to the first number outside.
+// The domain: ranges of floats, one number and a slice up to the first number outside; which rates are in it; and how much there can be at most.
 ghost use mathlib.Core.Path.{_≡_};
-ghost use Rattle.ranges.specs.Ranges.{within, leadingOf, allWithin, cleanOf};
+ghost use Rattle.ranges.specs.Ranges.{within, leadingOf, allWithin, cleanOf, rateIn};
 use float::quick::both;
+
+// How much there can be at most: samples in a frame, frames held, samples in a block, samples received.
+pub const FRAME_MOST: usize = 2048;
+
+pub const WARMUP_MOST: usize = 300;
+
+pub const BLOCK_MOST: usize = 1024;
+
+pub const RECEIVED_MOST: u64 = 0x100_0000_0000;
 
 pub fn inside(low: f32, x: f32, high: f32) -> bool
     ensures { λ r. ⌜ r ≡ within low x high ⌝ }
@@ -47,4 +56,11 @@ pub fn clean(samples: &[f32]) -> usize
         return samples.len();
     }
     leading(-65536.0, samples, 65536.0)
+}
+
+// For the detector and the filter.
+pub fn rate_allowed(sample_rate: u32) -> bool
+    ensures { λ r. ⌜ r ≡ rateIn «sample_rate» ⌝ }
+{
+    8_000 <= sample_rate && sample_rate <= 48_000
 }

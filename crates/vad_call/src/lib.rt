@@ -1,4 +1,6 @@
 // One call: the Rust's `run`, which detect and flush share.
+pub mod checks;
+
 ghost use mathlib.Core.Path.{_≡_};
 ghost use mathlib.Core.Bool.{true, cond};
 ghost use Prim.Native.Nat.{_+_, _≤_, _^_};
@@ -7,29 +9,25 @@ ghost use lib.ListN.{length, take};
 ghost use lib.Seq.{sets};
 ghost use Rattle.vad_frames.specs.Emphasis.{emphasized, lastOf};
 ghost use Rattle.vad_frames.specs.Grid.{framesOf, energiesOf, framedOf};
-ghost use Rattle.vad_segments.specs.Closing.{roomOf, flat};
-ghost use Rattle.vad_segments.specs.Rooms.{LengthsWithin, Within};
-ghost use Rattle.vad_state.specs.Kept.{hollowOf, keptOf, wholeOf};
-ghost use Rattle.vad_state.specs.State.{soundOf};
-ghost use Rattle.vad_call.specs.Calls.{holdingWith, dueOf, seededOf, gridStart, verdictOf, rowsDue, noTally, refusedBy, tooMany, reportedIn, ranOf, writtenOf, joinedOf, settledOf};
-ghost use Rattle.vad_call.specs.Inside.{heardOf};
+ghost use Rattle.vad_row.specs.Rows.{roomOf, flat};
+ghost use Rattle.vad_segments.specs.Rooms.{LengthsWithin, Within, positionsFirst, countsFirst};
+ghost use Rattle.ranges.specs.Sizes.{frameMost, warmupMost, blockMost, receivedMost};
+ghost use Rattle.vad_state.specs.State.{stateOf, soundOf};
+ghost use Rattle.vad_call.specs.Calls.{valuesMost, energiesMost, holdingWith, dueOf, seededOf, gridStart, verdictOf, rowsDue, noTally, refusedBy, tooMany, reportedIn, ranOf, writtenOf, joinedOf, settledOf};
+ghost use Rattle.vad_call.specs.Inside.{hearingOf};
+use refusals::Refusal;
 use vad_classify::Classified;
-use vad_classify::ROW_FIELDS;
 use vad_frames::Framed;
+use vad_row::ROW_FIELDS;
 use vad_segments::Track;
+use vad_state::Desk;
 use vad_state::Kept;
+use vad_state::Stream;
 use vad_state::VadDetector;
 use vad_state::arrays::clear_past;
 use vad_state::arrays::fill;
 use vad_state::arrays::fill_warmup;
 use vad_state::arrays::put_first;
-use vad_state::kept_of;
-
-// The number of a refusal, 0 for none, and what it carries: 16 the sample's place, 18 the rows needed.
-pub struct Refusal {
-    pub number: u32,
-    pub carries: usize,
-}
 
 // What a call counted: frames judged, the loud and the quiet among them, and rows written; and the floor after it.
 pub struct Tally {
@@ -55,12 +53,10 @@ pub struct Heard {
     pub tally: Tally,
 }
 
-// How far the stream has come with a call.
-pub struct Progress {
-    pub processed_samples: u64,
-    pub carry_start: u64,
-    pub pre_emphasis_prev: f32,
-}
+// What a call works in: the carry and a block, and the energies held and those of its frames.
+pub const VALUES_MOST: usize = 3072;
+
+pub const ENERGIES_MOST: usize = 1024;
 
 // The carry, then the block's values; answers the block's last raw sample.
 fn gather(
@@ -81,10 +77,10 @@ fn gather(
 
 // How many frames are held from earlier calls.
 fn waiting(kept: Kept) -> usize
-    ensures { λ r. ⌜ r ≡ cond (kept .warming) (kept .held) 0 ⌝ }
+    ensures { λ r. ⌜ r ≡ cond (kept .desk .warming) (kept .desk .held) 0 ⌝ }
 {
-    if kept.warming {
-        return kept.held;
+    if kept.desk.warming {
+        return kept.desk.held;
     }
     0
 }
@@ -125,7 +121,7 @@ fn measure<'a>(
     energies: &mut [f32],
 ) -> Framed
     requires { ⌜ (8 ≤ «hop_length») × («hop_length» ≤ «frame_length») × («frame_length» ≤ length (now window)) ⌝ }
-    requires { ⌜ (held ≤ 300) × (held ≤ length (now warmup)) × (length (now values) ≤ 3072) × (length (now energies) ≡ 1024) ⌝ }
+    requires { ⌜ (held ≤ warmupMost) × (held ≤ length (now warmup)) × (length (now values) ≤ valuesMost) × (length (now energies) ≡ energiesMost) ⌝ }
     ensures { λ r. ⌜ r .frames ≡ length (take held (now (warmup .entry)) ++ energiesOf finish (take «frame_length» (now (window .entry))) «hop_length» (now (values .entry))) ⌝ }
     ensures { λ r. ⌜ r .consumed ≡ framedOf finish (take «frame_length» (now (window .entry))) «hop_length» (now (values .entry)) .consumed ⌝ }
     ensures { λ _. ⌜ now (energies .exit) ≡ sets (now (energies .entry)) 0 (take held (now (warmup .entry)) ++ energiesOf finish (take «frame_length» (now (window .entry))) «hop_length» (now (values .entry))) ⌝ }
@@ -148,16 +144,16 @@ fn measure<'a>(
 
 // Whether frames go on being held.
 fn holding(kept: Kept, finish: bool, frames: usize) -> bool
-    ensures { λ r. ⌜ r ≡ holdingWith finish (hollowOf kept) frames ⌝ }
+    ensures { λ r. ⌜ r ≡ holdingWith finish kept frames ⌝ }
 {
-    if !kept.warming {
+    if !kept.desk.warming {
         return false;
     }
     vad_segments::positions::holds(finish, kept.rules.lengths.warmup_frames, frames)
 }
 
-// The energies unless they are held.
-fn unless(holds: bool, energies: &[f32]) -> &[f32]
+// The energies that are judged now: none where they are held.
+fn due_of(holds: bool, energies: &[f32]) -> &[f32]
     ensures { λ r. ⌜ now r ≡ cond holds [] (now (energies .entry)) ⌝ }
 {
     if holds {
@@ -168,10 +164,11 @@ fn unless(holds: bool, energies: &[f32]) -> &[f32]
 
 // The track that the frames are judged from: as warm-up ends, its floor is the background's.
 fn seeded(kept: Kept, due: &[f32]) -> Track
-    ensures { λ r. ⌜ r ≡ seededOf (hollowOf kept) (now (due .entry)) ⌝ }
+    ensures { λ r. ⌜ r ≡ seededOf kept (now (due .entry)) ⌝ }
 {
-    let mut track = kept.track;
-    if !kept.warming {
+    let desk = kept.desk;
+    let mut track = desk.track;
+    if !kept.desk.warming {
         return track;
     }
     track.noise_floor = vad_segments::seed(kept.rules.config.energy_floor, track.noise_floor, due);
@@ -179,36 +176,20 @@ fn seeded(kept: Kept, due: &[f32]) -> Track
 }
 
 fn grid_start(kept: Kept) -> u64
-    ensures { λ r. ⌜ r ≡ gridStart (hollowOf kept) ⌝ }
+    ensures { λ r. ⌜ r ≡ gridStart kept ⌝ }
 {
-    if kept.warming {
+    if kept.desk.warming {
         return 0;
     }
-    kept.carry_start
-}
-
-fn verdict(kept: Kept, received: u64, due: &[f32], finish: bool) -> Classified
-    requires { ⌜ LengthsWithin (kept .rules .lengths) × Within (2 ^ 41) (2 ^ 60) (kept .track) ⌝ }
-    requires { ⌜ (kept .«carry_start» ≤ 2 ^ 41) × (received ≤ 2 ^ 41) × (length (now due) ≤ 1024) ⌝ }
-    ensures { λ r. ⌜ r ≡ verdictOf finish (hollowOf kept) received (now (due .entry)) ⌝ }
-{
-    let rules = kept.rules;
-    vad_classify::classify(
-        rules,
-        received,
-        seeded(kept, due),
-        grid_start(kept),
-        due,
-        finish,
-    )
+    kept.stream.carry_start
 }
 
 // The rows, judged once more: most calls have none.
 fn report(kept: Kept, received: u64, due: &[f32], finish: bool, needed: u64, rows: &mut [u64])
-    requires { ⌜ LengthsWithin (kept .rules .lengths) × Within (2 ^ 41) (2 ^ 60) (kept .track) ⌝ }
-    requires { ⌜ (kept .«carry_start» ≤ 2 ^ 41) × (received ≤ 2 ^ 41) × (length (now due) ≤ 1024) ⌝ }
-    requires { ⌜ (needed ≡ length (rowsDue finish (hollowOf kept) received (now due))) × (needed ≤ roomOf (length (now rows))) ⌝ }
-    ensures { λ _. ⌜ now (rows .exit) ≡ sets (now (rows .entry)) 0 (flat (rowsDue finish (hollowOf kept) received (now (due .entry)))) ⌝ }
+    requires { ⌜ LengthsWithin (kept .rules .lengths) × Within positionsFirst countsFirst (kept .desk .track) ⌝ }
+    requires { ⌜ (kept .stream .«carry_start» ≤ positionsFirst) × (received ≤ positionsFirst) × (length (now due) ≤ energiesMost) ⌝ }
+    requires { ⌜ (needed ≡ length (rowsDue finish kept received (now due))) × (needed ≤ roomOf (length (now rows))) ⌝ }
+    ensures { λ _. ⌜ now (rows .exit) ≡ sets (now (rows .entry)) 0 (flat (rowsDue finish kept received (now (due .entry)))) ⌝ }
 {
     if needed == 0 {
         return;
@@ -250,7 +231,7 @@ pub fn refused(number: u32, carries: usize, detector: VadDetector) -> Detected
 }
 
 // What the frames come to: whether they are held, and the rows that they need; 18 is known before a row is written.
-pub struct Judged {
+pub struct Outcome {
     pub refused: bool,
     pub holds: bool,
     pub needed: u64,
@@ -258,19 +239,33 @@ pub struct Judged {
 }
 
 // Holds the energies or judges them. No array of the state stands in what it reads or answers.
-fn judge(kept: Kept, received: u64, energies: &[f32], finish: bool, rows: &mut [u64]) -> Judged
-    requires { ⌜ LengthsWithin (kept .rules .lengths) × Within (2 ^ 41) (2 ^ 60) (kept .track) ⌝ }
-    requires { ⌜ (kept .«carry_start» ≤ 2 ^ 41) × (received ≤ 2 ^ 41) × (length (now energies) ≤ 1024) ⌝ }
-    ensures { λ r. ⌜ (r .refused ≡ tooMany (rowsDue finish (hollowOf kept) received (dueOf finish (hollowOf kept) (now (energies .entry)))) (length (now (rows .entry)))) × (r .holds ≡ holdingWith finish (hollowOf kept) (length (now (energies .entry)))) ⌝ }
-    ensures { λ r. ⌜ (r .needed ≡ length (rowsDue finish (hollowOf kept) received (dueOf finish (hollowOf kept) (now (energies .entry))))) × (r .classified ≡ verdictOf finish (hollowOf kept) received (dueOf finish (hollowOf kept) (now (energies .entry)))) ⌝ }
-    ensures { λ _. ⌜ now (rows .exit) ≡ reportedIn (rowsDue finish (hollowOf kept) received (dueOf finish (hollowOf kept) (now (energies .entry)))) (now (rows .entry)) ⌝ }
+fn hold_or_judge(
+    kept: Kept,
+    received: u64,
+    energies: &[f32],
+    finish: bool,
+    rows: &mut [u64],
+) -> Outcome
+    requires { ⌜ LengthsWithin (kept .rules .lengths) × Within positionsFirst countsFirst (kept .desk .track) ⌝ }
+    requires { ⌜ (kept .stream .«carry_start» ≤ positionsFirst) × (received ≤ positionsFirst) × (length (now energies) ≤ energiesMost) ⌝ }
+    ensures { λ r. ⌜ (r .refused ≡ tooMany (rowsDue finish kept received (dueOf finish kept (now (energies .entry)))) (length (now (rows .entry)))) × (r .holds ≡ holdingWith finish kept (length (now (energies .entry)))) ⌝ }
+    ensures { λ r. ⌜ (r .needed ≡ length (rowsDue finish kept received (dueOf finish kept (now (energies .entry))))) × (r .classified ≡ verdictOf finish kept received (dueOf finish kept (now (energies .entry)))) ⌝ }
+    ensures { λ _. ⌜ now (rows .exit) ≡ reportedIn (rowsDue finish kept received (dueOf finish kept (now (energies .entry)))) (now (rows .entry)) ⌝ }
 {
     let holds = holding(kept, finish, energies.len());
-    let due = unless(holds, energies);
-    let classified = verdict(kept, received, due, finish);
-    let needed = classified.track.rows_reported - kept.track.rows_reported;
+    let due = due_of(holds, energies);
+    let rules = kept.rules;
+    let classified = vad_classify::classify(
+        rules,
+        received,
+        seeded(kept, due),
+        grid_start(kept),
+        due,
+        finish,
+    );
+    let needed = classified.track.rows_reported - kept.desk.track.rows_reported;
     if ((rows.len() / ROW_FIELDS) as u64) < needed {
-        return Judged {
+        return Outcome {
             refused: true,
             holds,
             needed,
@@ -278,7 +273,7 @@ fn judge(kept: Kept, received: u64, energies: &[f32], finish: bool, rows: &mut [
         };
     }
     report(kept, received, due, finish, needed, rows);
-    Judged {
+    Outcome {
         refused: false,
         holds,
         needed,
@@ -296,51 +291,45 @@ fn held_after(holds: bool, frames: usize) -> usize
     0
 }
 
-// What was heard of `total` values, once their frames are judged.
-fn concluded(
-    mut kept: Kept,
-    progress: Progress,
-    total: usize,
-    framed: Framed,
-    judged: Judged,
-) -> Heard
-    requires { ⌜ framed .consumed ≤ total ⌝ }
-    ensures { λ r. ⌜ r ≡ heardOf kept progress total framed judged ⌝ }
+// What was heard, once the frames are judged.
+fn concluded(kept: Kept, stream: Stream, frames: usize, outcome: Outcome, consumed: usize) -> Heard
+    ensures { λ r. ⌜ r ≡ hearingOf kept stream frames outcome consumed ⌝ }
 {
-    if judged.refused {
+    if outcome.refused {
         return Heard {
             refusal: Refusal {
                 number: 18,
-                carries: judged.needed as usize,
+                carries: outcome.needed as usize,
             },
             consumed: 0,
             kept,
             tally: no_tally(),
         };
     }
-    let classified = judged.classified;
+    let classified = outcome.classified;
+    let rules = kept.rules;
     let track = classified.track;
-    let consumed = framed.consumed;
-    kept.carry_len = total - consumed;
-    kept.carry_start = progress.carry_start;
-    kept.processed_samples = progress.processed_samples;
-    kept.pre_emphasis_prev = progress.pre_emphasis_prev;
-    kept.warming = judged.holds;
-    kept.held = held_after(judged.holds, framed.frames);
-    kept.track = track;
     Heard {
         refusal: Refusal {
             number: 0,
             carries: 0,
         },
         consumed,
-        kept,
+        kept: Kept {
+            rules,
+            stream,
+            desk: Desk {
+                warming: outcome.holds,
+                held: held_after(outcome.holds, frames),
+                track,
+            },
+        },
         tally: Tally {
             frames: classified.frames,
             loud: classified.loud,
             quiet: classified.quiet,
             noise_floor: classified.track.noise_floor,
-            rows: judged.needed as usize,
+            rows: outcome.needed as usize,
         },
     }
 }
@@ -357,13 +346,13 @@ pub fn hear<'a>(
     energies: &mut [f32],
     rows: &mut [u64],
 ) -> Heard
-    requires { ⌜ soundOf (wholeOf kept (now window) (now carry) (now warmup)) ≡ true ⌝ }
-    requires { ⌜ (length (now window) ≡ 2048) × (length (now carry) ≡ 2048) × (length (now warmup) ≡ 300) × (length (now values) ≡ 3072) × (length (now energies) ≡ 1024) ⌝ }
-    requires { ⌜ (length (now samples) ≤ 1024) × (kept .«processed_samples» + length (now samples) ≤ 2 ^ 40) ⌝ }
-    ensures { λ r. ⌜ ranOf finish (wholeOf kept (now (window .entry)) (now (carry .entry)) (now (warmup .entry))) (now (samples .entry)) (length (now (rows .entry))) ≡ settledOf r (now (values .exit)) (now (energies .exit)) (wholeOf kept (now (window .entry)) (now (carry .entry)) (now (warmup .entry))) ⌝ }
-    ensures { λ r. ⌜ (r .kept ≡ keptOf (ranOf finish (wholeOf kept (now (window .entry)) (now (carry .entry)) (now (warmup .entry))) (now (samples .entry)) (length (now (rows .entry))) .detector)) × (r .kept .«carry_start» ≡ kept .«carry_start» + r .consumed) ⌝ }
-    ensures { λ r. ⌜ (r .refusal .number ≡ 0 → (r .consumed + r .kept .«carry_len» ≤ 3072) × (r .kept .«carry_len» ≤ 2048) × (r .kept .held ≤ 300)) ⌝ }
-    ensures { λ _. ⌜ now (rows .exit) ≡ writtenOf finish (wholeOf kept (now (window .entry)) (now (carry .entry)) (now (warmup .entry))) (now (samples .entry)) (now (rows .entry)) ⌝ }
+    requires { ⌜ soundOf (stateOf kept (now window) (now carry) (now warmup)) ≡ true ⌝ }
+    requires { ⌜ (length (now window) ≡ frameMost) × (length (now carry) ≡ frameMost) × (length (now warmup) ≡ warmupMost) × (length (now values) ≡ valuesMost) × (length (now energies) ≡ energiesMost) ⌝ }
+    requires { ⌜ (length (now samples) ≤ blockMost) × (kept .stream .«processed_samples» + length (now samples) ≤ receivedMost) ⌝ }
+    ensures { λ r. ⌜ ranOf finish (stateOf kept (now (window .entry)) (now (carry .entry)) (now (warmup .entry))) (now (samples .entry)) (length (now (rows .entry))) ≡ settledOf r (now (values .exit)) (now (energies .exit)) (stateOf kept (now (window .entry)) (now (carry .entry)) (now (warmup .entry))) ⌝ }
+    ensures { λ r. ⌜ (r .kept ≡ ranOf finish (stateOf kept (now (window .entry)) (now (carry .entry)) (now (warmup .entry))) (now (samples .entry)) (length (now (rows .entry))) .detector .kept) × (r .kept .stream .«carry_start» ≡ kept .stream .«carry_start» + r .consumed) ⌝ }
+    ensures { λ r. ⌜ (r .refusal .number ≡ 0 → (r .consumed + r .kept .stream .«carry_len» ≤ valuesMost) × (r .kept .stream .«carry_len» ≤ frameMost) × (r .kept .desk .held ≤ warmupMost)) ⌝ }
+    ensures { λ _. ⌜ now (rows .exit) ≡ writtenOf finish (stateOf kept (now (window .entry)) (now (carry .entry)) (now (warmup .entry))) (now (samples .entry)) (now (rows .entry)) ⌝ }
 {
     let coeff = vad_frames::coefficient(
         kept.rules.config.has_pre_emphasis,
@@ -371,13 +360,13 @@ pub fn hear<'a>(
     );
     let last = gather(
         carry,
-        kept.carry_len,
+        kept.stream.carry_len,
         coeff,
-        kept.pre_emphasis_prev,
+        kept.stream.pre_emphasis_prev,
         samples,
         values,
     );
-    let total = kept.carry_len + samples.len();
+    let total = kept.stream.carry_len + samples.len();
     let held = waiting(kept);
     let framed = measure(
         window,
@@ -390,47 +379,40 @@ pub fn hear<'a>(
         energies,
     );
     let frames = framed.frames;
-    let processed_samples = kept.processed_samples + samples.len() as u64;
-    let judged = judge(kept, processed_samples, &energies[0..frames], finish, rows);
+    let consumed = framed.consumed;
+    let processed_samples = kept.stream.processed_samples + samples.len() as u64;
+    let outcome = hold_or_judge(kept, processed_samples, &energies[0..frames], finish, rows);
     concluded(
         kept,
-        Progress {
+        Stream {
+            carry_len: total - consumed,
+            carry_start: kept.stream.carry_start + consumed as u64,
             processed_samples,
-            carry_start: kept.carry_start + framed.consumed as u64,
             pre_emphasis_prev: last,
         },
-        total,
-        framed,
-        judged,
+        frames,
+        outcome,
+        consumed,
     )
 }
 
 // The state after a call that was not refused, in place: its arrays are not copied.
 fn joined(mut detector: VadDetector, kept: Kept, carry: &[f32], held: &[f32]) -> VadDetector
-    requires { ⌜ (detector .rules .lengths .«frame_length» ≤ 2048) × (length (now carry) ≤ 2048) × (length (now held) ≤ 300) ⌝ }
+    requires { ⌜ (detector .kept .rules .lengths .«frame_length» ≤ frameMost) × (length (now carry) ≤ frameMost) × (length (now held) ≤ warmupMost) ⌝ }
     ensures { λ r. ⌜ r ≡ joinedOf detector kept (now (carry .entry)) (now (held .entry)) ⌝ }
 {
-    let rules = kept.rules;
-    let track = kept.track;
-    let frame_length = detector.rules.lengths.frame_length;
+    let frame_length = detector.kept.rules.lengths.frame_length;
     clear_past(&mut detector.window, frame_length);
     fill(&mut detector.carry, carry);
     fill_warmup(&mut detector.warmup, held);
-    detector.rules = rules;
-    detector.carry_len = kept.carry_len;
-    detector.carry_start = kept.carry_start;
-    detector.processed_samples = kept.processed_samples;
-    detector.pre_emphasis_prev = kept.pre_emphasis_prev;
-    detector.warming = kept.warming;
-    detector.held = kept.held;
-    detector.track = track;
+    detector.kept = kept;
     detector
 }
 
 // The answer, from what was heard and the slices that it was heard in.
 fn settled(heard: Heard, detector: VadDetector, values: &[f32], energies: &[f32]) -> Detected
-    requires { ⌜ (detector .rules .lengths .«frame_length» ≤ 2048) × (length (now values) ≡ 3072) × (length (now energies) ≡ 1024) ⌝ }
-    requires { ⌜ (heard .refusal .number ≡ 0 → (heard .consumed + heard .kept .«carry_len» ≤ 3072) × (heard .kept .«carry_len» ≤ 2048) × (heard .kept .held ≤ 300)) ⌝ }
+    requires { ⌜ (detector .kept .rules .lengths .«frame_length» ≤ frameMost) × (length (now values) ≡ valuesMost) × (length (now energies) ≡ energiesMost) ⌝ }
+    requires { ⌜ (heard .refusal .number ≡ 0 → (heard .consumed + heard .kept .stream .«carry_len» ≤ valuesMost) × (heard .kept .stream .«carry_len» ≤ frameMost) × (heard .kept .desk .held ≤ warmupMost)) ⌝ }
     ensures { λ r. ⌜ r ≡ settledOf heard (now (values .entry)) (now (energies .entry)) detector ⌝ }
 {
     let refusal = heard.refusal;
@@ -444,8 +426,8 @@ fn settled(heard: Heard, detector: VadDetector, values: &[f32], energies: &[f32]
         };
     }
     let consumed = heard.consumed;
-    let end = consumed + kept.carry_len;
-    let held = kept.held;
+    let end = consumed + kept.stream.carry_len;
+    let held = kept.desk.held;
     Detected {
         refusal,
         detector: joined(detector, kept, &values[consumed..end], &energies[0..held]),
@@ -456,15 +438,16 @@ fn settled(heard: Heard, detector: VadDetector, values: &[f32], energies: &[f32]
 // The same of a state that is given whole. Its arrays are lent here: a callee that took the state and lent them would copy them.
 pub fn run(detector: VadDetector, samples: &[f32], finish: bool, rows: &mut [u64]) -> Detected
     requires { ⌜ soundOf detector ≡ true ⌝ }
-    requires { ⌜ (length (now samples) ≤ 1024) × (detector .«processed_samples» + length (now samples) ≤ 2 ^ 40) ⌝ }
+    requires { ⌜ (length (now samples) ≤ blockMost) × (detector .kept .stream .«processed_samples» + length (now samples) ≤ receivedMost) ⌝ }
     ensures { λ r. ⌜ r ≡ ranOf finish detector (now (samples .entry)) (length (now (rows .entry))) ⌝ }
     ensures { λ _. ⌜ now (rows .exit) ≡ writtenOf finish detector (now (samples .entry)) (now (rows .entry)) ⌝ }
 {
-    let mut values = [0.0; 3072];
-    let mut energies = [0.0; 1024];
+    let mut values = [0.0; VALUES_MOST];
+    let mut energies = [0.0; ENERGIES_MOST];
+    let kept = detector.kept;
     settled(
         hear(
-            kept_of(detector),
+            kept,
             &detector.window,
             &detector.carry,
             &detector.warmup,

@@ -7,15 +7,15 @@ use native.Mathlib.Omega.{arith}
 use native.Mathlib.Nat.{zero-add}
 use lib.ListN.{length, length-append}
 use lib.Seq.{sets}
-use Rattle.lists.specs.Stores.{sets-append}
-use Rattle.vad_segments.specs.Closing.{reported, flat}
+use Rattle.lists.proofs.Stores.{sets-append}
+use Rattle.vad_row.specs.Rows.{reported, flat}
 use Rattle.vad_segments.specs.Judging.{trackAfter, rowsOf, loudsOf, countOf, endedOf, callRows, callTrack}
 use Rattle.vad_segments.specs.declared.Rules.{Rules}
 use Rattle.vad_segments.specs.declared.FrameMetrics.{FrameMetrics}
 use Rattle.vad_segments.specs.declared.Track.{Track}
 use Rattle.vad_segments.specs.declared.Judged.{Judged}
 use Rattle.vad_classify.specs.Classify.{classifiedOf}
-use Rattle.vad_segments.proofs.Laws.{flat-append}
+use Rattle.vad_row.proofs.Laws.{flat-append}
 use Rattle.vad_segments.proofs.Counts.{loud-and-quiet}
 
 module _ (finish : Bool) (r : Rules) (limit : ℕ) (t : Track) (fs : List FrameMetrics) (u : Track) (e : u ≡ trackAfter r limit t fs) (j : Judged) (k : j ≡ endedOf finish r limit u) where

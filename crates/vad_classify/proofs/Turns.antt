@@ -8,14 +8,14 @@ use native.Mathlib.Omega.{arith}
 use lib.ListN.{length, drop, getD, length-append, drop-of-length-le}
 use lib.Seq.{drop-cons, sets}
 use lib.Ieee.{Float, nan}
-use Rattle.lists.specs.Stores.{sets-append}
-use Rattle.vad_segments.specs.Closing.{reported, flat}
+use Rattle.lists.proofs.Stores.{sets-append}
+use Rattle.vad_row.specs.Rows.{reported, flat}
 use Rattle.vad_segments.specs.Judging.{judgedOf, frameAt, framesAt, trackAfter, rowsOf, loudsOf, countOf}
 use Rattle.vad_segments.specs.declared.Rules.{Rules}
 use Rattle.vad_segments.specs.declared.FrameMetrics.{FrameMetrics}
 use Rattle.vad_segments.specs.declared.Track.{Track}
 use Rattle.vad_segments.specs.declared.Judged.{Judged}
-use Rattle.vad_segments.proofs.Laws.{flat-append}
+use Rattle.vad_row.proofs.Laws.{flat-append}
 
 pub count-le : (b : Bool) → cond b 1 0 ≤ 1
 count-le true = omega arith

@@ -6,7 +6,7 @@ use Prim.Native.Nat.{ℕ}
 use lib.Seq.{sets}
 use lib.Ieee.{Float}
 use Rattle.float.proofs.Unique.{only}
-use Rattle.vad_segments.specs.Closing.{flat}
+use Rattle.vad_row.specs.Rows.{flat}
 use Rattle.vad_segments.specs.Judging.{framesAt, callRows}
 use Rattle.vad_segments.specs.declared.Rules.{Rules}
 use Rattle.vad_segments.specs.declared.Track.{Track}

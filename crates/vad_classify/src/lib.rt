@@ -1,29 +1,19 @@
 // A call's frames in order, and their rows: the loop of `classify` of the Rust's src/vad/detector.rs around what vad_segments judges of one frame. The track is passed in and returned; rows are lent.
 ghost use mathlib.Core.Path.{_≡_};
 ghost use mathlib.Core.Bool.{cond};
-ghost use Prim.Native.Nat.{_+_, _≤_, _^_};
+ghost use Prim.Native.Nat.{_+_, _≤_};
 ghost use lib.ListN.{length};
 ghost use lib.Seq.{sets};
-ghost use Rattle.vad_segments.specs.Closing.{flat, fieldsOf, reported};
+ghost use Rattle.vad_row.specs.Rows.{flat};
 ghost use Rattle.vad_segments.specs.Judging.{framesAt, trackAfter, rowsOf, loudsOf, countOf, callRows};
-ghost use Rattle.vad_segments.specs.Rooms.{LengthsWithin, Within};
+ghost use Rattle.vad_segments.specs.Rooms.{framesMost, positionsFirst, countsFirst, LengthsWithin, Within};
 ghost use Rattle.vad_classify.specs.Classify.{classifiedOf};
-use vad_segments::Report;
+use vad_row::put_report;
 use vad_segments::Rules;
-use vad_segments::SpeechChunk;
 use vad_segments::Track;
 use vad_segments::closing::ended;
 use vad_segments::judging::frame_at;
 use vad_segments::judging::judge;
-
-// How many numbers a row has: a lent slice holds as many rows as its length divided by this.
-pub const ROW_FIELDS: usize = 7;
-
-// The track after a call's frames, and how many of them were loud.
-struct Passed {
-    pub track: Track,
-    pub loud: usize,
-}
 
 // The track after a call, and its frames, loud and quiet.
 pub struct Classified {
@@ -40,7 +30,7 @@ struct Written {
 }
 
 fn one_more(count: usize, loud: bool) -> usize
-    requires { ⌜ count ≤ 1024 ⌝ }
+    requires { ⌜ count ≤ framesMost ⌝ }
     ensures { λ r. ⌜ r ≡ count + cond loud 1 0 ⌝ }
 {
     if loud {
@@ -49,12 +39,18 @@ fn one_more(count: usize, loud: bool) -> usize
     count
 }
 
-// The frames in order, without their rows.
-fn pass(rules: Rules, received: u64, track: Track, first: u64, energies: &[f32]) -> Passed
-    requires { ⌜ LengthsWithin (rules .lengths) × Within (2 ^ 41) (2 ^ 60) track ⌝ }
-    requires { ⌜ (received ≤ 2 ^ 41) × (first ≤ 2 ^ 41) × (length (now energies) ≤ 1024) ⌝ }
-    ensures { λ r. ⌜ r .track ≡ trackAfter rules received track (framesAt (rules .lengths) received first (now (energies .entry))) ⌝ }
-    ensures { λ r. ⌜ r .loud ≡ countOf (loudsOf rules received track (framesAt (rules .lengths) received first (now (energies .entry)))) ⌝ }
+// A call's frames judged one after the other, the first of them at `first`; with `finish` the open segment is closed after them.
+pub fn classify(
+    rules: Rules,
+    received: u64,
+    track: Track,
+    first: u64,
+    energies: &[f32],
+    finish: bool,
+) -> Classified
+    requires { ⌜ LengthsWithin (rules .lengths) × Within positionsFirst countsFirst track ⌝ }
+    requires { ⌜ (received ≤ positionsFirst) × (first ≤ positionsFirst) × (length (now energies) ≤ framesMost) ⌝ }
+    ensures { λ r. ⌜ r ≡ classifiedOf finish rules received track (framesAt (rules .lengths) received first (now (energies .entry))) ⌝ }
 {
     let lengths = rules.lengths;
     let mut t = track;
@@ -73,58 +69,14 @@ fn pass(rules: Rules, received: u64, track: Track, first: u64, energies: &[f32])
         start += lengths.hop_length as u64;
         i += 1;
     }
-    Passed { track: t, loud }
-}
-
-// A call's frames judged one after the other, the first of them at `first`; with `finish` the open segment is closed after them.
-pub fn classify(
-    rules: Rules,
-    received: u64,
-    track: Track,
-    first: u64,
-    energies: &[f32],
-    finish: bool,
-) -> Classified
-    requires { ⌜ LengthsWithin (rules .lengths) × Within (2 ^ 41) (2 ^ 60) track ⌝ }
-    requires { ⌜ (received ≤ 2 ^ 41) × (first ≤ 2 ^ 41) × (length (now energies) ≤ 1024) ⌝ }
-    ensures { λ r. ⌜ r ≡ classifiedOf finish rules received track (framesAt (rules .lengths) received first (now (energies .entry))) ⌝ }
-{
-    let passed = pass(rules, received, track, first, energies);
-    let end = ended(finish, rules, received, passed.track);
-    let track = end.track;
+    let end = ended(finish, rules, received, t);
+    t = end.track;
     let frames = energies.len();
     Classified {
-        track,
+        track: t,
         frames,
-        loud: passed.loud,
-        quiet: frames - passed.loud,
-    }
-}
-
-// One row from a place on; answers the place after it.
-fn put_row(rows: &mut [u64], at: usize, chunk: SpeechChunk) -> usize
-    requires { ⌜ at + length (fieldsOf chunk) ≤ length (now rows) ⌝ }
-    ensures { λ r. ⌜ r ≡ at + length (fieldsOf chunk) ⌝ }
-    ensures { λ _. ⌜ now (rows .exit) ≡ sets (now (rows .entry)) at (fieldsOf chunk) ⌝ }
-{
-    rows[at] = chunk.start_sample;
-    rows[at + 1] = chunk.end_sample;
-    rows[at + 2] = chunk.start_time;
-    rows[at + 3] = chunk.end_time;
-    rows[at + 4] = chunk.score_total;
-    rows[at + 5] = chunk.loud_frames;
-    rows[at + 6] = chunk.mean_energy;
-    at + ROW_FIELDS
-}
-
-fn put_report(rows: &mut [u64], at: usize, report: Report) -> usize
-    requires { ⌜ at + length (flat (reported report)) ≤ length (now rows) ⌝ }
-    ensures { λ r. ⌜ r ≡ at + length (flat (reported report)) ⌝ }
-    ensures { λ _. ⌜ now (rows .exit) ≡ sets (now (rows .entry)) at (flat (reported report)) ⌝ }
-{
-    match report {
-        Report::NoRow => at,
-        Report::Row(chunk) => put_row(rows, at, chunk),
+        loud,
+        quiet: frames - loud,
     }
 }
 
@@ -137,8 +89,8 @@ fn write_closed(
     energies: &[f32],
     rows: &mut [u64],
 ) -> Written
-    requires { ⌜ LengthsWithin (rules .lengths) × Within (2 ^ 41) (2 ^ 60) track ⌝ }
-    requires { ⌜ (received ≤ 2 ^ 41) × (first ≤ 2 ^ 41) × (length (now energies) ≤ 1024) ⌝ }
+    requires { ⌜ LengthsWithin (rules .lengths) × Within positionsFirst countsFirst track ⌝ }
+    requires { ⌜ (received ≤ positionsFirst) × (first ≤ positionsFirst) × (length (now energies) ≤ framesMost) ⌝ }
     requires { ⌜ length (flat (rowsOf rules received track (framesAt (rules .lengths) received first (now energies)))) ≤ length (now rows) ⌝ }
     ensures { λ r. ⌜ r .track ≡ trackAfter rules received track (framesAt (rules .lengths) received first (now (energies .entry))) ⌝ }
     ensures { λ r. ⌜ r .end ≡ length (flat (rowsOf rules received track (framesAt (rules .lengths) received first (now (energies .entry))))) ⌝ }
@@ -175,8 +127,8 @@ pub fn write_rows(
     finish: bool,
     rows: &mut [u64],
 )
-    requires { ⌜ LengthsWithin (rules .lengths) × Within (2 ^ 41) (2 ^ 60) track ⌝ }
-    requires { ⌜ (received ≤ 2 ^ 41) × (first ≤ 2 ^ 41) × (length (now energies) ≤ 1024) ⌝ }
+    requires { ⌜ LengthsWithin (rules .lengths) × Within positionsFirst countsFirst track ⌝ }
+    requires { ⌜ (received ≤ positionsFirst) × (first ≤ positionsFirst) × (length (now energies) ≤ framesMost) ⌝ }
     requires { ⌜ length (flat (callRows finish rules received track (framesAt (rules .lengths) received first (now energies)))) ≤ length (now rows) ⌝ }
     ensures { λ _. ⌜ now (rows .exit) ≡ sets (now (rows .entry)) 0 (flat (callRows finish rules received track (framesAt (rules .lengths) received first (now (energies .entry))))) ⌝ }
 {

@@ -15,7 +15,8 @@ use lib.Ieee.Positive.{positive, positive-of-value, own-value, values-of-le, abo
 use borrow.Author.Tests.{le-ltb}
 use Rattle.float.specs.Whole.{roundOf, ceilOf}
 use Rattle.float.proofs.Bounds.{Low, Mag, Held, low-value, over-value, held-small, round-low, mul-weight-low, mul-low, add-low, div-low}
-use Rattle.vad_config.specs.Domain.{zero32, one32, inUnit}
+use Rattle.float.specs.Numbers.{zero32, one32}
+use Rattle.vad_config.specs.Domain.{inUnit}
 use Rattle.vad_config.specs.Lengths.{hopLengthOf, warmupSeconds, warmupFramesOf, secondsOf, paddingSamplesOf}
 use Rattle.vad_config.proofs.Ranges.{unit-in}
 

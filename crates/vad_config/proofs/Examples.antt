@@ -4,10 +4,13 @@ use mathlib.Core.Bool.{Bool, true, false}
 use Prim.Native.Nat.{ℕ}
 use lib.Ieee.{Float, nan, inf, binary32, ofBits, ofInt, round, sum, add, neg, sub, mul, div, lt, eq, le, isNan}
 use Rattle.float.specs.Whole.{roundOf, ceilOf}
+use Rattle.refusals.specs.Refusals.{firstOf}
 use Rattle.vad_config.specs.declared.VadConfig.{VadConfig}
-use Rattle.vad_config.specs.Domain.{zero32, one32, inUnit, rateIn, durationIn, startIn, receivedIn}
+use Rattle.float.specs.Numbers.{zero32, one32}
+use Rattle.ranges.specs.Ranges.{rateIn}
+use Rattle.vad_config.specs.Domain.{inUnit, durationIn, startIn, receivedIn}
 use Rattle.vad_config.specs.Lengths.{frameLength, frameLengthOf, hopLengthOf, warmupFramesOf, secondsOf, paddingSamplesOf, timeOf, timeOfSampleOf}
-use Rattle.vad_config.specs.Settings.{frameOf, hopOf, warmupOf, firstOf, framingRefusals, levelRefusals, limitRefusals, refusalOf}
+use Rattle.vad_config.specs.Settings.{frameOf, hopOf, warmupOf, framingRefusals, levelRefusals, limitRefusals, refusalOf}
 
 -- ---- document 01's table
 abbrev half : Float

@@ -6,25 +6,22 @@ use native.Mathlib.Nat.{le-trans, zero-lt-suc, eq-or-lt-of-le, le-refl, add-le-a
 use native.Mathlib.Decide.{decLt}
 use native.Mathlib.Omega.{arith}
 use mathlib.Core.Bool.{Bool, true, false, not, _&&_, _||_, true≢false}
-use mathlib.Core.List.{List, _∷_}
 use lib.Dec.{T, ltb, eqb}
 use lib.Ieee.{Float, nan, inf, fin, up, down, below, level, isNan, lt, le, eq, ofBits}
 use lib.Ieee.Nearest.{div-mono}
 use lib.Ieee.Scale.{finite}
 use borrow.Author.Tests.{not-false, ltb-false, eqb-false, lt-ltb, le-ltb, le-leb, eq-eqb}
 use Rattle.float.proofs.Words.{T-of}
+use Rattle.refusals.proofs.First.{passed}
 use Rattle.vad_config.specs.declared.VadConfig.{VadConfig}
-use Rattle.vad_config.specs.Domain.{zero32, one32, inUnit, rateIn, durationIn, startIn, receivedIn}
+use Rattle.float.specs.Numbers.{zero32, one32}
+use Rattle.ranges.specs.Ranges.{rateIn}
+use Rattle.vad_config.specs.Domain.{inUnit, durationIn, startIn, receivedIn}
 use Rattle.vad_config.specs.Lengths.{frameLength, frameLengthOf, warmupFramesOf, timeOf, timeOfSampleOf}
-use Rattle.vad_config.specs.Settings.{firstOf, framingRefusals, levelRefusals, limitRefusals, refusalOf, lengthsOf, frameOf, hopOf, warmupOf, paddingOf}
-use Rattle.vad_config.proofs.Ranges.{rate-in, duration-in, start-in}
+use Rattle.vad_config.specs.Settings.{framingRefusals, levelRefusals, limitRefusals, refusalOf, lengthsOf, frameOf, hopOf, warmupOf, paddingOf}
+use Rattle.ranges.proofs.Laws.{rate-in}
+use Rattle.vad_config.proofs.Ranges.{duration-in, start-in}
 use Rattle.vad_config.proofs.Bounds.{hop-le, warmup-many, padding-le}
-
--- ---- a test that did not hold
-passed : (k : ℕ) (t : Bool) (ts : List Bool) → firstOf (suc k) (t ∷ ts) ≡ 0 → (t ≡ false) × (firstOf (suc (suc k)) ts ≡ 0)
-unfolding firstOf
-passed k true ts h = absurd (omega arith)
-passed k false ts h = (refl, h)
 
 neither : (a b : Bool) → (a || b) ≡ false → (a ≡ false) × (b ≡ false)
 neither true b h = absurd (true≢false h)
@@ -119,19 +116,19 @@ pub record Accepted (c : VadConfig) : Type 0 where
 pub accepted : (c : VadConfig) → refusalOf c ≡ 0 → Accepted c
 unfolding refusalOf framingRefusals levelRefusals limitRefusals
 accepted c h =
-    let p1 = passed 0 _ _ h in
-    let p2 = passed 1 _ _ (p1 .1) in
-    let p3 = passed 2 _ _ (p2 .1) in
-    let p4 = passed 3 _ _ (p3 .1) in
-    let p5 = passed 4 _ _ (p4 .1) in
-    let p6 = passed 5 _ _ (p5 .1) in
-    let p7 = passed 6 _ _ (p6 .1) in
-    let p8 = passed 7 _ _ (p7 .1) in
-    let p9 = passed 8 _ _ (p8 .1) in
-    let p10 = passed 9 _ _ (p9 .1) in
-    let p11 = passed 10 _ _ (p10 .1) in
-    let p12 = passed 11 _ _ (p11 .1) in
-    let p13 = passed 12 _ _ (p12 .1) in
+    let p1 = passed _ _ refl h in
+    let p2 = passed _ _ (p1 .1 .0) (p1 .1 .1) in
+    let p3 = passed _ _ (p2 .1 .0) (p2 .1 .1) in
+    let p4 = passed _ _ (p3 .1 .0) (p3 .1 .1) in
+    let p5 = passed _ _ (p4 .1 .0) (p4 .1 .1) in
+    let p6 = passed _ _ (p5 .1 .0) (p5 .1 .1) in
+    let p7 = passed _ _ (p6 .1 .0) (p6 .1 .1) in
+    let p8 = passed _ _ (p7 .1 .0) (p7 .1 .1) in
+    let p9 = passed _ _ (p8 .1 .0) (p8 .1 .1) in
+    let p10 = passed _ _ (p9 .1 .0) (p9 .1 .1) in
+    let p11 = passed _ _ (p10 .1 .0) (p10 .1 .1) in
+    let p12 = passed _ _ (p11 .1 .0) (p11 .1 .1) in
+    let p13 = passed _ _ (p12 .1 .0) (p12 .1 .1) in
     let r = c .«release_ratio» in
     let a = c .«activation_ratio» in
     let e = c .«energy_floor» in

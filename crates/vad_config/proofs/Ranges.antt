@@ -8,15 +8,12 @@ use lib.Dec.{T, leb, leb→le, ltb→lt}
 use lib.Ieee.{Float, le, lt}
 use lib.Ieee.Fits.{and-l, and-r}
 use Rattle.float.proofs.Words.{T-of}
-use Rattle.vad_config.specs.Domain.{zero32, one32, inUnit, rateIn, durationIn, startIn}
+use Rattle.float.specs.Numbers.{zero32, one32}
+use Rattle.vad_config.specs.Domain.{inUnit, durationIn, startIn}
 
 pub unit-in : (x : Float) → inUnit x ≡ true → T (le zero32 x) × T (lt x one32)
 unfolding inUnit
 unit-in x h = (and-l (le zero32 x) (lt x one32) (T-of h), and-r (le zero32 x) (lt x one32) (T-of h))
-
-pub rate-in : (rate : ℕ) → rateIn rate ≡ true → (8000 ≤ rate) × (rate ≤ 48000)
-unfolding rateIn
-rate-in rate h = (leb→le 8000 rate (and-l (leb 8000 rate) (leb rate 48000) (T-of h)), leb→le rate 48000 (and-r (leb 8000 rate) (leb rate 48000) (T-of h)))
 
 pub duration-in : (ns : ℕ) → durationIn ns ≡ true → (1 ≤ ns) × (ns ≤ 1000000000)
 unfolding durationIn

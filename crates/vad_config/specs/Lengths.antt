@@ -4,7 +4,9 @@ use mathlib.Core.Bool.{_&&_, cond}
 use lib.IntN.{pos}
 use lib.Ieee.{Float, binary32, binary64, ofBits, ofInt, add, sub, mul, div}
 use Rattle.float.specs.Whole.{roundOf, ceilOf}
-use Rattle.vad_config.specs.Domain.{one32, rateIn, durationIn, startIn, receivedIn}
+use Rattle.float.specs.Numbers.{one32}
+use Rattle.ranges.specs.Ranges.{rateIn}
+use Rattle.vad_config.specs.Domain.{durationIn, startIn, receivedIn}
 
 -- 'Frame length = (ns × rate + 500,000,000) div 10^9, at least 1.'
 unfoldable pub frameLength : ℕ → ℕ → ℕ

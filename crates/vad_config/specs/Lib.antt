@@ -1,3 +1,4 @@
+pub mod Config
 pub mod Domain
 pub mod Lengths
 pub mod Settings

@@ -3,17 +3,16 @@ ghost use mathlib.Core.Path.{_≡_};
 ghost use mathlib.Core.Bool.{_||_, not};
 ghost use lib.Ieee.{isNan, lt};
 ghost use lib.Ieee.Scale.{finite};
-ghost use Rattle.vad_config.specs.Domain.{zero32, inUnit, rateIn, durationIn};
-ghost use Rattle.vad_config.specs.Settings.{firstOf, framingRefusals, levelRefusals, limitRefusals};
+ghost use Rattle.refusals.specs.Refusals.{firstOf};
+ghost use Rattle.float.specs.Numbers.{zero32};
+ghost use Rattle.vad_config.specs.Domain.{inUnit, durationIn};
+ghost use Rattle.vad_config.specs.Settings.{framingRefusals, levelRefusals, limitRefusals};
 use super::VadConfig;
 use super::lengths_of;
 use super::start_allowed;
-
-pub fn rate_allowed(sample_rate: u32) -> bool
-    ensures { λ r. ⌜ r ≡ rateIn «sample_rate» ⌝ }
-{
-    8_000 <= sample_rate && sample_rate <= 48_000
-}
+use ranges::FRAME_MOST;
+use ranges::WARMUP_MOST;
+use ranges::rate_allowed;
 
 pub fn duration_allowed(frame_duration: u64) -> bool
     ensures { λ r. ⌜ r ≡ durationIn «frame_duration» ⌝ }
@@ -49,7 +48,7 @@ fn not_finite_or_not_positive(x: f32) -> bool
 
 // 1 to 4.
 pub fn framing(config: VadConfig) -> u32
-    ensures { λ r. ⌜ r ≡ firstOf 1 (framingRefusals config) ⌝ }
+    ensures { λ r. ⌜ r ≡ firstOf (framingRefusals config) .number ⌝ }
 {
     if !rate_allowed(config.sample_rate) {
         return 1;
@@ -68,7 +67,7 @@ pub fn framing(config: VadConfig) -> u32
 
 // 5 to 10.
 pub fn levels(config: VadConfig) -> u32
-    ensures { λ r. ⌜ r ≡ firstOf 5 (levelRefusals config) ⌝ }
+    ensures { λ r. ⌜ r ≡ firstOf (levelRefusals config) .number ⌝ }
 {
     if nan_or_below(config.release_ratio, 1.0) {
         return 5;
@@ -93,13 +92,13 @@ pub fn levels(config: VadConfig) -> u32
 
 // 11 to 13.
 pub fn limits(config: VadConfig) -> u32
-    ensures { λ r. ⌜ r ≡ firstOf 11 (limitRefusals config) ⌝ }
+    ensures { λ r. ⌜ r ≡ firstOf (limitRefusals config) .number ⌝ }
 {
     let worked_out = lengths_of(config);
-    if 2_048 < worked_out.frame_length {
+    if FRAME_MOST < worked_out.frame_length {
         return 11;
     }
-    if 300 < worked_out.warmup_frames {
+    if WARMUP_MOST < worked_out.warmup_frames {
         return 12;
     }
     if 1_000_000_000 < config.speech_padding {

@@ -6,6 +6,8 @@ ghost use Prim.Native.Nat.{max};
 ghost use Rattle.vad_config.specs.Domain.{startIn};
 ghost use Rattle.vad_config.specs.Lengths.{frameLengthOf, hopLengthOf, warmupFramesOf, paddingSamplesOf, timeOfSampleOf};
 ghost use Rattle.vad_config.specs.Settings.{lengthsOf, refusalOf};
+use ranges::RECEIVED_MOST;
+use ranges::rate_allowed;
 
 const NANOS_PER_SECOND: u64 = 1_000_000_000;
 
@@ -70,7 +72,7 @@ pub fn lengths_of(config: VadConfig) -> Lengths
 pub fn frame_length_samples(sample_rate: u32, frame_duration: u64) -> usize
     ensures { λ r. ⌜ r ≡ frameLengthOf «sample_rate» «frame_duration» ⌝ }
 {
-    if !checks::rate_allowed(sample_rate) {
+    if !rate_allowed(sample_rate) {
         return 0;
     }
     if !checks::duration_allowed(frame_duration) {
@@ -117,13 +119,13 @@ pub fn start_allowed(stream_start_time: u64) -> bool
 pub fn time_of_sample(stream_start_time: u64, sample_rate: u32, sample: u64) -> u64
     ensures { λ r. ⌜ r ≡ timeOfSampleOf «stream_start_time» «sample_rate» sample ⌝ }
 {
-    if !checks::rate_allowed(sample_rate) {
+    if !rate_allowed(sample_rate) {
         return 0;
     }
     if !start_allowed(stream_start_time) {
         return 0;
     }
-    if 0x100_0000_0000 < sample {
+    if RECEIVED_MOST < sample {
         return 0;
     }
     let rate = sample_rate as u64;

@@ -1,47 +1,56 @@
 -- What an opening and a call answer, and what a call leaves in the rows, way by way. Assumes nothing.
-use mathlib.Core.Path.{_≡_, refl, ap, _∙_}
-use mathlib.Core.Bool.{Bool, true, false, not, cond}
-use mathlib.Core.List.{List, []}
-use Prim.Native.Nat.{ℕ, _+_, _^_, _≤_}
+use mathlib.Core.Path.{_≡_, refl, sym, ap, _∙_}
+use mathlib.Core.Bool.{Bool, true, false, not, _&&_, cond}
+use mathlib.Core.List.{List, [], _∷_}
+use Prim.Native.Nat.{ℕ, _+_, _≤_}
 use native.Mathlib.Nat.{le-trans, le-of-eq}
 use native.Mathlib.Omega.{arith}
-use borrow.Author.Tests.{ltb-false, leb-true, eqb-true, eqb-false, ne-eqb}
-use lib.Dec.{ltb, leb, eqb}
+use borrow.Author.Tests.{not-false, ltb-false, leb-true, eqb-true, eqb-false, eq-eqb, ne-eqb}
+use lib.Dec.{ltb, eqb}
 use lib.ListN.{length}
 use lib.Ieee.{Float}
+use Rattle.refusals.specs.Refusals.{Case, bare, carrying, firstOf}
+use Rattle.refusals.proofs.First.{here, skip, last, number-of, passed}
 use Rattle.ranges.specs.Ranges.{cleanOf}
 use Rattle.vad_config.specs.Domain.{receivedIn}
 use Rattle.vad_config.specs.Settings.{refusalOf, lengthsOf, frameOf}
 use Rattle.vad_config.specs.declared.VadConfig.{VadConfig}
 use Rattle.vad_config.specs.declared.Lengths.{Lengths}
 use Rattle.vad_config.proofs.Laws.{lengths-are, frame-high}
-use Rattle.vad_state.specs.State.{handedIn, soundOf}
-use Rattle.vad_detector.specs.Opening.{handedOver, openRefusal, rulesOf, freshOf, nothingOpen, openOf}
+use Rattle.ranges.specs.Sizes.{blockMost, receivedMost, frameMost}
+use Rattle.vad_state.specs.State.{weightsIn, soundOf}
+use Rattle.vad_detector.specs.Opening.{weightsFit, openRefusal, rulesOf, freshOf, nothingOpen, openOf}
 use Rattle.vad_call.specs.Calls.{refusedBy, ranOf, writtenOf}
-use Rattle.vad_detector.specs.Entries.{checkOf, detectOf, detectRows, flushOf, flushRows}
+use Rattle.vad_call.specs.Checks.{checkOf}
+use Rattle.vad_detector.specs.Entries.{detectOf, detectRows, flushOf, flushRows}
 use Rattle.vad_state.specs.declared.VadDetector.{VadDetector}
-use Rattle.vad_call.specs.declared.Refusal.{Refusal}
+use Rattle.refusals.specs.declared.Refusal.{Refusal}
 use Rattle.vad_call.specs.declared.Detected.{Detected}
-use Rattle.float.proofs.Words.{both}
 
 -- ---- opening
 
 module _ (c : VadConfig) (window : List Float) (rise : Float) where
+  abbrev settings : Case
+  settings = bare (refusalOf c) (not (eqb (refusalOf c) 0))
+
+  abbrev handing : Case
+  handing = bare 14 (not (weightsFit (frameOf c) window rise))
+
   pub refused-settings : (n : ℕ) → n ≡ refusalOf c → (n ≡ 0 → ⊥) → n ≡ openRefusal c window rise
   unfolding openRefusal
-  refused-settings n e z = rw (← e, ne-eqb n 0 z)
+  refused-settings n e z = e ∙ number-of (here settings (handing ∷ []) (ap not (ne-eqb (refusalOf c) 0 (λ q. z (e ∙ q)))))
 
-  module _ (z : refusalOf c ≡ 0) (l : Lengths) (e : l ≡ lengthsOf c) (t : Bool) (h : t ≡ handedOver (l .«frame_length») window rise) where
-    handed : t ≡ handedOver (frameOf c) window rise
-    handed = h ∙ ap (λ (m : Lengths). handedOver (m .«frame_length») window rise) e ∙ ap (λ (n : ℕ). handedOver n window rise) (lengths-are c .0)
+  module _ (z : refusalOf c ≡ 0) (l : Lengths) (e : l ≡ lengthsOf c) (t : Bool) (h : t ≡ weightsFit (l .«frame_length») window rise) where
+    handed : t ≡ weightsFit (frameOf c) window rise
+    handed = h ∙ ap (λ (m : Lengths). weightsFit (m .«frame_length») window rise) e ∙ ap (λ (n : ℕ). weightsFit n window rise) (lengths-are c .0)
 
     pub refused-handed : t ≡ false → 14 ≡ openRefusal c window rise
     unfolding openRefusal
-    refused-handed f = rw (z, ← handed, f)
+    refused-handed f = number-of (skip settings (handing ∷ []) (ap not (eq-eqb (refusalOf c) 0 z)) ∙ here handing [] (ap not (sym handed ∙ f)))
 
     pub refused-none : t ≡ true → 0 ≡ openRefusal c window rise
     unfolding openRefusal
-    refused-none f = rw (z, ← handed, f)
+    refused-none f = number-of (skip settings (handing ∷ []) (ap not (eq-eqb (refusalOf c) 0 z)) ∙ last handing (ap not (sym handed ∙ f)))
 
   module _ (n : ℕ) (e : n ≡ openRefusal c window rise) where
     pub open-refused : (n ≡ 0 → ⊥) → (d : VadDetector) → d ≡ nothingOpen → record { refusal = n; detector = d } ≡ openOf c window rise
@@ -52,45 +61,42 @@ module _ (c : VadConfig) (window : List Float) (rise : Float) where
     unfolding openOf rulesOf
     open-taken z l m d h = rw (← e, z, h, m)
 
-  accepts : (s t : Bool) (n : ℕ) → (s ≡ false → n ≡ 0 → ⊥) → cond s (cond t 0 14) n ≡ 0 → (s ≡ true) × (t ≡ true)
-  accepts true true n f h = (refl, refl)
-  accepts true false n f h = absurd (omega arith)
-  accepts false t n f h = absurd (f refl h)
+  -- an opening that is not refused
+  pub open-parts : openRefusal c window rise ≡ 0 → (refusalOf c ≡ 0) × (length window ≡ frameOf c) × (weightsIn window rise ≡ true)
+  unfolding openRefusal weightsFit firstOf
+  open-parts = go (eqb (refusalOf c) 0) (eqb (length window) (frameOf c)) (weightsIn window rise) (eqb-true (refusalOf c) 0) (eqb-false (refusalOf c) 0) (eqb-true (length window) (frameOf c))
+    where
+      go : (a b t : Bool) → (a ≡ true → refusalOf c ≡ 0) → (a ≡ false → refusalOf c ≡ 0 → ⊥) → (b ≡ true → length window ≡ frameOf c) → firstOf (bare (refusalOf c) (not a) ∷ bare 14 (not (b && t)) ∷ []) .number ≡ 0
+          → (refusalOf c ≡ 0) × (length window ≡ frameOf c) × (t ≡ true)
+      go true true true f g k e = (f refl, k refl, refl)
+      go true true false f g k e = absurd (omega arith)
+      go true false t f g k e = absurd (omega arith)
+      go false b t f g k e = absurd (g refl e)
 
-  -- an opening that is not refused has a window that fits
-  pub window-short : openRefusal c window rise ≡ 0 → length window ≤ 2048
-  unfolding openRefusal handedOver
-  window-short h =
-      let t = accepts (eqb (refusalOf c) 0) (handedOver (frameOf c) window rise) (refusalOf c) (eqb-false (refusalOf c) 0) h in
-      let same = eqb-true _ _ (both (eqb (length window) (frameOf c)) (handedIn window rise) (t .1) .0) in
-      le-trans (le-of-eq same) (frame-high c (eqb-true _ _ (t .0)))
+  -- its window fits
+  pub window-short : openRefusal c window rise ≡ 0 → length window ≤ frameMost
+  window-short h = let p = open-parts h in le-trans (le-of-eq (p .1)) (frame-high c (p .0))
 
 -- ---- the check of a block
 
 -- what a check that refuses nothing has found
 pub record Checked (d : VadDetector) (xs : List Float) : Type 0 where
   pub sound : soundOf d ≡ true
-  pub short : length xs ≤ 1024
+  pub short : length xs ≤ blockMost
   pub clean : length xs ≤ cleanOf xs
-  pub fits : d .«processed_samples» + length xs ≤ 2 ^ 40
-
-numbered : ℕ → ℕ → Refusal
-numbered number carries = record { number = number; carries = carries }
-
-passed : (s l b f : Bool) (p : ℕ) → cond (not s) (numbered 19 0) (cond l (numbered 15 0) (cond b (numbered 16 p) (cond (not f) (numbered 17 0) (numbered 0 0)))) .number ≡ 0
-    → (s ≡ true) × (l ≡ false) × (b ≡ false) × (f ≡ true)
-unfolding numbered
-passed true false false true p h = (refl, refl, refl, refl)
-passed true false false false p h = absurd (omega arith)
-passed true false true f p h = absurd (omega arith)
-passed true true b f p h = absurd (omega arith)
-passed false l b f p h = absurd (omega arith)
+  pub fits : d .kept .stream .«processed_samples» + length xs ≤ receivedMost
 
 pub checked : (d : VadDetector) (xs : List Float) → checkOf d xs .number ≡ 0 → Checked d xs
-unfolding checkOf numbered receivedIn
+unfolding checkOf receivedIn
 checked d xs h =
-    let t = passed (soundOf d) (ltb 1024 (length xs)) (ltb (cleanOf xs) (length xs)) (leb (d .«processed_samples» + length xs) (2 ^ 40)) (cleanOf xs) h in
-    record { sound = t .0; short = ltb-false _ _ (t .1); clean = ltb-false _ _ (t .2); fits = leb-true _ _ (t .3) }
+    let long = bare 15 (ltb blockMost (length xs)) in
+    let unclean = carrying 16 (cleanOf xs) (ltb (cleanOf xs) (length xs)) in
+    let far = bare 17 (not (receivedIn (d .kept .stream .«processed_samples» + length xs))) in
+    let a = passed (bare 19 (not (soundOf d))) (long ∷ unclean ∷ far ∷ []) refl h in
+    let b = passed long (unclean ∷ far ∷ []) (a .1 .0) (a .1 .1) in
+    let c = passed unclean (far ∷ []) (b .1 .0) (b .1 .1) in
+    let e = passed far [] (c .1 .0) (c .1 .1) in
+    record { sound = not-false _ (a .0); short = ltb-false _ _ (b .0); clean = ltb-false _ _ (c .0); fits = leb-true _ _ (not-false _ (e .0)) }
 
 -- ---- detect
 

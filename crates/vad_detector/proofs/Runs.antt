@@ -3,7 +3,7 @@ use mathlib.Core.Path.{_≡_, refl, sym, ap, _∙_, subst}
 use mathlib.Core.Logic.{_⊎_, inl, inr, ⊎-elim}
 use mathlib.Core.Bool.{Bool, true, false, not, _&&_, _||_, cond, true≢false}
 use mathlib.Core.List.{List, [], _∷_, _++_}
-use Prim.Native.Nat.{ℕ, suc, _+_, _*_, _^_, _≤_}
+use Prim.Native.Nat.{ℕ, _+_, _*_, _^_, _≤_}
 use native.Mathlib.Nat.{zero-mul}
 use native.Mathlib.Omega.{arith}
 use borrow.Author.Tests.{ltb-false, leb-true, eqb-true, eqb-false, le-ltb, ne-eqb}
@@ -14,34 +14,43 @@ use lib.Ieee.Scale.{finite}
 use lib.Ieee.Fits.{and-i}
 use lib.Ieee.Bits.{is-true}
 use lib.Ieee.Positive.{positive, above-of-le, le→cross}
-use Rattle.lists.specs.Every.{Every, every-map}
-use Rattle.ranges.specs.Ranges.{within, limit, inDomain, cleanOf}
+use Rattle.lists.specs.Every.{Every}
+use Rattle.lists.proofs.Every.{every-map}
+use Rattle.ranges.specs.Ranges.{rateIn, within, limit, inDomain, cleanOf}
 use Rattle.ranges.proofs.Laws.{within-all, clean-mags}
 use Rattle.float.proofs.Bounds.{Mag, le-of-mag}
-use Rattle.vad_config.specs.Domain.{zero32, rateIn, startIn, receivedIn}
-use Rattle.vad_config.specs.Settings.{firstOf, framingRefusals, levelRefusals, limitRefusals, refusalOf, lengthsOf, frameOf, hopOf, warmupOf, paddingOf}
+use Rattle.float.specs.Numbers.{zero32}
+use Rattle.vad_config.specs.Domain.{startIn, receivedIn}
+use Rattle.refusals.specs.Refusals.{Case, bare, firstOf}
+use Rattle.refusals.proofs.First.{without, never, skip, last-case, number-of}
+use Rattle.lists.proofs.Tests.{either}
+use Rattle.vad_config.specs.Settings.{framingRefusals, levelRefusals, limitRefusals, refusalOf, lengthsOf, frameOf, hopOf, warmupOf, paddingOf}
 use Rattle.vad_config.specs.declared.VadConfig.{VadConfig}
 use Rattle.vad_config.specs.declared.Lengths.{Lengths}
 use Rattle.vad_config.proofs.Laws.{accepted, lengths-are, frame-low, warmup-low}
+use Rattle.vad_segments.specs.Setters.{freshTrack}
 use Rattle.vad_segments.specs.declared.Rules.{Rules}
 use Rattle.vad_segments.specs.declared.ActiveSegment.{ActiveSegment}
 use Rattle.vad_segments.specs.declared.ActiveSegment.the-variants.{Closed, Open}
-use Rattle.vad_segments.specs.declared.SpeechChunk.{SpeechChunk}
+use Rattle.vad_row.specs.declared.Row.{Row}
 use Rattle.vad_segments.proofs.Ordered.{ActiveOrdered}
 use Rattle.vad_segments.proofs.Counts.{ActiveCounted, countIn}
 use Rattle.vad_segments.proofs.Floor.{FloorRules, ActiveHeld, floor-rules, floor-is-finite, least-held, energy-in, total-in}
-use Rattle.vad_state.specs.State.{loudest32, total32, windowOf, carriedOf, heldOf, handedIn, settingsSound, soundOf}
-use Rattle.vad_detector.specs.Opening.{handedOver, openRefusal, rulesOf, freshTrack, freshOf, zeroRules, nothingOpen, openOf, Handed, restartedOf, resetTo, resetOf}
-use Rattle.vad_call.specs.Calls.{tooMany, rowsDue, refusedBy, acceptedOf, concludedOf, ranOf, measuredOf, progressOf, dueOf, holdingOf, carryAfter, keptOf, verdictOf}
-use Rattle.vad_detector.specs.Entries.{checkOf, detectOf, flushOf}
+use Rattle.ranges.specs.Sizes.{frameMost, warmupMost, blockMost, receivedMost}
+use Rattle.vad_state.specs.State.{loudest32, total32, windowOf, carriedOf, heldOf, weightsIn, settingsSound, soundOf}
+use Rattle.vad_detector.specs.Opening.{weightsFit, openRefusal, rulesOf, freshOf, zeroRules, nothingOpen, openOf, Handed, restartedOf, resetTo, resetOf}
+use Rattle.vad_call.specs.Calls.{tooMany, rowsDue, refusedBy, acceptedOf, concludedOf, ranOf, measuredOf, streamAfter, dueOf, holdingOf, carryAfter, heldAfter, verdictOf}
+use Rattle.vad_call.specs.Checks.{blockRefusals, checkOf}
+use Rattle.vad_detector.specs.Entries.{detectOf, flushOf}
 use Rattle.vad_detector.specs.Readings.{readOf, undecidedRead, analyzedRead, rowsRead, talkRead, floorRead, segmentRead}
 use Rattle.vad_detector.specs.Run.{Call, Detect, Flush, Reset, next, numberOf, play}
 use Rattle.vad_state.specs.declared.VadDetector.{VadDetector}
 use Rattle.vad_call.specs.declared.Detected.{Detected}
-use Rattle.vad_call.specs.declared.Refusal.{Refusal}
+use Rattle.refusals.specs.declared.Refusal.{Refusal}
 use Rattle.vad_detector.specs.declared.Opened.{Opened}
 use Rattle.vad_state.proofs.Parts.{ActiveIn, HeldIn, Sound, whole}
 use Rattle.vad_state.proofs.Fills.{filled-take}
+use Rattle.vad_detector.proofs.Answers.{checked, open-parts}
 use Rattle.vad_detector.proofs.Running.{Holding, Running, handed-parts, ranTo, ran-running}
 
 -- ---- what holds in a run is sound
@@ -91,8 +100,8 @@ held-in d k = record {
 
 pub running-is-sound : (d : VadDetector) → Running d → Sound d
 running-is-sound d r =
-    let t = d .track in
-    let least = d .rules .config .«energy_floor» in
+    let t = d .kept .desk .track in
+    let least = d .kept .rules .config .«energy_floor» in
     let found = floor-is-finite least (t .«noise_floor») (r .floors .least) (r .floor) in
     record {
       settings = r .settings;
@@ -101,7 +110,7 @@ running-is-sound d r =
       short = r .short;
       joined = r .joined;
       carried = within-all (neg loudest32) loudest32 (carriedOf d) (every-map _ _ carried-in (carriedOf d) (r .carried));
-      last = last-in (d .«pre_emphasis_prev») (r .last);
+      last = last-in (d .kept .stream .«pre_emphasis_prev») (r .last);
       floor-finite = is-true (finite (t .«noise_floor»)) found;
       floor = not-under least (t .«noise_floor») (r .floors .least .1) found (r .floor .1);
       received = r .received;
@@ -109,7 +118,7 @@ running-is-sound d r =
       talk = r .ordered .talk;
       rows = omega (arith, r .rows-talk, r .ordered .talk, r .ordered .ended);
       held = λ on. held-in d (r .held on);
-      active = active-in (d .rules .config .«hangover_frames») (d .«processed_samples») (t .«last_segment_end») (d .«carry_start») (t .«active_segment») (r .ordered .active) (r .counted) (r .energy) (r .loud) (omega (arith, r .joined));
+      active = active-in (d .kept .rules .config .«hangover_frames») (d .kept .stream .«processed_samples») (t .«last_segment_end») (d .kept .stream .«carry_start») (t .«active_segment») (r .ordered .active) (r .counted) (r .energy) (r .loud) (omega (arith, r .joined));
     }
 
 pub running-sound : (d : VadDetector) → Running d → soundOf d ≡ true
@@ -120,7 +129,7 @@ running-sound d r = whole d (running-is-sound d r)
 -- a state that has heard nothing
 pub fresh-window : (r : Rules) (window : List Float) → length window ≡ r .lengths .«frame_length» → windowOf (freshOf r window) ≡ window
 unfolding windowOf freshOf
-fresh-window r window e = filled-take 2048 window (r .lengths .«frame_length») e
+fresh-window r window e = filled-take frameMost window (r .lengths .«frame_length») e
 
 fresh-holding : (r : Rules) (window : List Float) → 1 ≤ r .lengths .«warmup_frames» → Holding (freshOf r window)
 unfolding freshOf freshTrack heldOf
@@ -137,7 +146,7 @@ zero-mag : Mag zero32 65536 1
 unfolding ofBits
 zero-mag = lit≤ tt
 
-fresh-running : (r : Rules) (window : List Float) → refusalOf (r .config) ≡ 0 → r .lengths ≡ lengthsOf (r .config) → length window ≡ r .lengths .«frame_length» → handedIn window (r .«speech_floor_rise») ≡ true → FloorRules r
+fresh-running : (r : Rules) (window : List Float) → refusalOf (r .config) ≡ 0 → r .lengths ≡ lengthsOf (r .config) → length window ≡ r .lengths .«frame_length» → weightsIn window (r .«speech_floor_rise») ≡ true → FloorRules r
     → Running (freshOf r window)
 unfolding freshOf freshTrack carriedOf
 fresh-running r window z l w h f =
@@ -148,7 +157,7 @@ fresh-running r window z l w h f =
     record {
       settings = z;
       lengths = l;
-      handed = ap (λ (v : List Float). handedIn v (r .«speech_floor_rise»)) on ∙ h;
+      handed = ap (λ (v : List Float). weightsIn v (r .«speech_floor_rise»)) on ∙ h;
       wide = ap length on ∙ w;
       floors = f;
       carry-is = refl;
@@ -166,18 +175,6 @@ fresh-running r window z l w h f =
       held = λ e. fresh-holding r window (omega (arith, warmup, warmup-low c z));
     }
 
--- an opening that is not refused
-pub open-parts : (c : VadConfig) (window : List Float) (rise : Float) → openRefusal c window rise ≡ 0 → (refusalOf c ≡ 0) × (length window ≡ frameOf c) × (handedIn window rise ≡ true)
-unfolding openRefusal handedOver
-open-parts c window rise = go (eqb (refusalOf c) 0) (eqb (length window) (frameOf c)) (handedIn window rise) (eqb-true (refusalOf c) 0) (eqb-false (refusalOf c) 0) (eqb-true (length window) (frameOf c))
-  where
-    go : (a b t : Bool) → (a ≡ true → refusalOf c ≡ 0) → (a ≡ false → refusalOf c ≡ 0 → ⊥) → (b ≡ true → length window ≡ frameOf c) → cond a (cond (b && t) 0 14) (refusalOf c) ≡ 0
-        → (refusalOf c ≡ 0) × (length window ≡ frameOf c) × (t ≡ true)
-    go true true true f g k e = (f refl, k refl, refl)
-    go true true false f g k e = absurd (omega arith)
-    go true false t f g k e = absurd (omega arith)
-    go false b t f g k e = absurd (g refl e)
-
 pub opened-is : (c : VadConfig) (window : List Float) (rise : Float) → openOf c window rise .refusal ≡ 0 → openOf c window rise .detector ≡ freshOf (rulesOf c rise) window
 unfolding openOf
 opened-is c window rise z = ap (λ (n : ℕ). cond (eqb n 0) (freshOf (rulesOf c rise) window) nothingOpen) z
@@ -194,13 +191,6 @@ open-running c window rise z f =
 -- ---- reset
 
 -- a refusal 13 for the new start alone is asked of the settings again
-start-last : (k : ℕ) (ts : List Bool) (t : Bool) → firstOf (suc k) (ts ++ (t ∷ [])) ≡ 0 → (t ≡ false) × (firstOf (suc k) (ts ++ (false ∷ [])) ≡ 0)
-unfolding firstOf
-start-last k [] true e = absurd (omega arith)
-start-last k [] false e = (refl, refl)
-start-last k (true ∷ ts) t e = absurd (omega arith)
-start-last k (false ∷ ts) t e = start-last (suc k) ts t e
-
 later-start : (a b : Bool) → (a || not b) ≡ false → (s : Bool) → s ≡ true → (a || not s) ≡ false
 later-start true b e s h = absurd (true≢false e)
 later-start false b e s h = rw h
@@ -209,9 +199,9 @@ restarted-settings : (c : VadConfig) (start : ℕ) → startIn start ≡ true �
 unfolding refusalOf framingRefusals levelRefusals limitRefusals restartedOf frameOf hopOf warmupOf
 restarted-settings c start s z =
     let most = ltb 1000000000 (c .«speech_padding») || ltb 10000 (c .«hangover_frames») || ltb 10000 (c .«min_speech_frames») in
-    let tests = framingRefusals c ++ (levelRefusals c ++ (ltb 2048 (frameOf c) ∷ ltb 300 (warmupOf c) ∷ [])) in
-    let l = start-last 0 tests (most || not (startIn (c .«stream_start_time»))) z in
-    ap (λ (t : Bool). firstOf 1 (tests ++ (t ∷ []))) (later-start most (startIn (c .«stream_start_time»)) (l .0) (startIn start) s) ∙ l .1
+    let tests = framingRefusals c ++ (levelRefusals c ++ (bare 11 (ltb 2048 (frameOf c)) ∷ bare 12 (ltb 300 (warmupOf c)) ∷ [])) in
+    let l = last-case tests (bare 13 (most || not (startIn (c .«stream_start_time»)))) refl z in
+    number-of (sym (l .1 (bare 13 (most || not (startIn start))) (later-start most (startIn (c .«stream_start_time»)) (l .0) (startIn start) s)))
 
 restarted-lengths : (c : VadConfig) (start : ℕ) → lengthsOf (restartedOf c start) ≡ lengthsOf c
 unfolding lengthsOf restartedOf frameOf hopOf warmupOf paddingOf
@@ -220,7 +210,7 @@ restarted-lengths c start = refl
 reset-to-running : (d : VadDetector) (start : ℕ) → startIn start ≡ true → Running d → Running (resetTo d start)
 unfolding resetTo restartedOf
 reset-to-running d start s r =
-    let c = d .rules .config in
+    let c = d .kept .rules .config in
     fresh-running _ (windowOf d) (restarted-settings c start s (r .settings)) (r .lengths ∙ sym (restarted-lengths c start)) (r .wide) (r .handed)
     (record { least = r .floors .least; smoothing = r .floors .smoothing; rise = r .floors .rise })
 
@@ -229,42 +219,30 @@ reset-to-running d start s r =
 -- what 15, 16 and 17 let through
 pub record Clean (d : VadDetector) (xs : List Float) : Type 0 where
   pub sound : soundOf d ≡ true
-  pub short : length xs ≤ 1024
+  pub short : length xs ≤ blockMost
   pub samples : Every (λ x. Mag x 65536 1) xs
-  pub room : d .«processed_samples» + length xs ≤ 2 ^ 40
+  pub room : d .kept .stream .«processed_samples» + length xs ≤ receivedMost
 
 abbrev pub Ends : (premise : Type 0) → ℕ → VadDetector → VadDetector → VadDetector → Type 0
 Ends premise number given new after = (premise × (number ≡ 0) × (after ≡ new)) ⊎ ((number ≡ 0 → ⊥) × (after ≡ given))
 
 pub check-clean : (d : VadDetector) (xs : List Float) → checkOf d xs .number ≡ 0 → Clean d xs
-unfolding checkOf receivedIn
-check-clean d xs =
-    go (soundOf d) (ltb 1024 (length xs)) (ltb (cleanOf xs) (length xs)) (leb (d .«processed_samples» + length xs) (2 ^ 40)) refl (ltb-false 1024 (length xs)) (λ e. clean-mags xs (ltb-false (cleanOf xs) (length xs) e)) (leb-true (d .«processed_samples» + length xs) (2 ^ 40))
-  where
-    go : (s l b n : Bool) → soundOf d ≡ s → (l ≡ false → length xs ≤ 1024) → (b ≡ false → Every (λ x. Mag x 65536 1) xs) → (n ≡ true → d .«processed_samples» + length xs ≤ 2 ^ 40)
-        → cond {A = Refusal} (not s) (record { number = 19; carries = 0 })
-        (cond l (record { number = 15; carries = 0 }) (cond b (record { number = 16; carries = cleanOf xs }) (cond (not n) (record { number = 17; carries = 0 }) (record { number = 0; carries = 0 })))) .number ≡ 0
-        → Clean d xs
-    go true false false true s l b n e = record { sound = s; short = l refl; samples = b refl; room = n refl }
-    go true false false false s l b n e = absurd (omega arith)
-    go true false true n s l b m e = absurd (omega arith)
-    go true true b n s l c m e = absurd (omega arith)
-    go false l b n s k c m e = absurd (omega arith)
+check-clean d xs h = let c = checked d xs h in record { sound = c .sound; short = c .short; samples = clean-mags xs (c .clean); room = c .fits }
 
 -- 18 or 0
 ran-ends : (finish : Bool) (d : VadDetector) (xs : List Float) (room : ℕ)
     → ((ranOf finish d xs room .refusal .number ≡ 0) × (ranOf finish d xs room .detector ≡ ranTo finish d xs)) ⊎ ((ranOf finish d xs room .refusal .number ≡ 18) × (ranOf finish d xs room .detector ≡ d))
-unfolding ranOf concludedOf refusedBy acceptedOf progressOf
+unfolding ranOf concludedOf refusedBy acceptedOf streamAfter
 ran-ends finish d xs room = go (tooMany rows room)
   where
-    rows : List SpeechChunk
-    rows = rowsDue finish d (d .«processed_samples» + length xs) (dueOf finish d (measuredOf finish d xs))
+    rows : List Row
+    rows = rowsDue finish (d .kept) (d .kept .stream .«processed_samples» + length xs) (dueOf finish (d .kept) (measuredOf finish d xs))
 
     stuck : Detected
     stuck = refusedBy 18 (length rows) d
 
     done : Detected
-    done = acceptedOf d (progressOf finish d xs) (holdingOf finish d (measuredOf finish d xs)) (carryAfter finish d xs) (keptOf finish d (measuredOf finish d xs)) (verdictOf finish d (d .«processed_samples» + length xs) (dueOf finish d (measuredOf finish d xs))) (length rows)
+    done = acceptedOf d (streamAfter finish d xs) (carryAfter finish d xs) (holdingOf finish (d .kept) (measuredOf finish d xs)) (heldAfter finish (d .kept) (measuredOf finish d xs)) (verdictOf finish (d .kept) (d .kept .stream .«processed_samples» + length xs) (dueOf finish (d .kept) (measuredOf finish d xs))) (length rows)
 
     go : (b : Bool) → ((cond b stuck done .refusal .number ≡ 0) × (cond b stuck done .detector ≡ ranTo finish d xs)) ⊎ ((cond b stuck done .refusal .number ≡ 18) × (cond b stuck done .detector ≡ d))
     go true = inr (refl, refl)
@@ -299,17 +277,13 @@ flush-ends d room = go (soundOf d) refl
     go false e = inr (λ z. absurd (omega arith), refl)
 
 pub reset-ends : (d : VadDetector) (start : ℕ) → Ends ((soundOf d ≡ true) × (startIn start ≡ true)) (resetOf d start .refusal) d (resetTo d start) (resetOf d start .detector)
-unfolding resetOf
+unfolding resetOf firstOf
 reset-ends d start = go (soundOf d) (startIn start) refl refl
   where
-    stuck : ℕ → Opened
-    stuck n = record { refusal = n; detector = d }
+    number : Bool → Bool → ℕ
+    number a b = firstOf (bare 19 (not a) ∷ bare 13 (not b) ∷ []) .number
 
-    done : Opened
-    done = record { refusal = 0; detector = resetTo d start }
-
-    go : (a b : Bool) → soundOf d ≡ a → startIn start ≡ b
-        → Ends ((soundOf d ≡ true) × (startIn start ≡ true)) (cond (not a) (stuck 19) (cond (not b) (stuck 13) done) .refusal) d (resetTo d start) (cond (not a) (stuck 19) (cond (not b) (stuck 13) done) .detector)
+    go : (a b : Bool) → soundOf d ≡ a → startIn start ≡ b → Ends ((soundOf d ≡ true) × (startIn start ≡ true)) (number a b) d (resetTo d start) (cond (eqb (number a b) 0) (resetTo d start) d)
     go true true e f = inl ((e, f), refl, refl)
     go true false e f = inr (λ z. absurd (omega arith), refl)
     go false b e f = inr (λ z. absurd (omega arith), refl)
@@ -349,35 +323,19 @@ run-sound c window rise ks z f = running-sound (play (openOf c window rise .dete
 ran-taken : (finish : Bool) (d : VadDetector) (xs : List Float) (room : ℕ) → ranOf finish d xs room .refusal .number ≡ 19 → ⊥
 ran-taken finish d xs room e = ⊎-elim (λ k. absurd (omega (arith, k .0, e))) (λ k. absurd (omega (arith, k .0, e))) (ran-ends finish d xs room)
 
-check-taken : (s l b n : Bool) (place : ℕ) → s ≡ true
-    → cond {A = Refusal} (not s) (record { number = 19; carries = 0 })
-    (cond l (record { number = 15; carries = 0 }) (cond b (record { number = 16; carries = place }) (cond n (record { number = 17; carries = 0 }) (record { number = 0; carries = 0 })))) .number ≡ 19
-    → ⊥
-check-taken true true b n place h e = absurd (omega arith)
-check-taken true false true n place h e = absurd (omega arith)
-check-taken true false false true place h e = absurd (omega arith)
-check-taken true false false false place h e = absurd (omega arith)
-check-taken false l b n place h e = absurd (true≢false (sym h))
-
-either-taken : (t : Bool) (p q : Detected) → (p .refusal .number ≡ 19 → ⊥) → (q .refusal .number ≡ 19 → ⊥) → cond t p q .refusal .number ≡ 19 → ⊥
-either-taken true p q h k = h
-either-taken false p q h k = k
-
-reset-taken : (s t : Bool) (d new : VadDetector) → s ≡ true
-    → cond {A = Opened} (not s) (record { refusal = 19; detector = d }) (cond t (record { refusal = 13; detector = d }) (record { refusal = 0; detector = new })) .refusal ≡ 19 → ⊥
-reset-taken true true d new h e = absurd (omega arith)
-reset-taken true false d new h e = absurd (omega arith)
-reset-taken false t d new h e = absurd (true≢false (sym h))
+-- where the state is sound, what is left of a chain has no 19
+rest-taken : (d : VadDetector) (cs : List Case) → soundOf d ≡ true → without 19 cs ≡ true → firstOf (bare 19 (not (soundOf d)) ∷ cs) .number ≡ 19 → ⊥
+rest-taken d cs h w e = never 19 cs w (λ z. absurd (omega arith)) (sym (ap (λ (r : Refusal). r .number) (skip (bare 19 (not (soundOf d))) cs (ap not h))) ∙ e)
 
 -- a sound state is not refused by 19
 pub sound-taken : (d : VadDetector) (k : Call) → soundOf d ≡ true → numberOf d k ≡ 19 → ⊥
 unfolding numberOf detectOf checkOf flushOf resetOf refusedBy
 sound-taken d (Detect xs room) h =
     let r = checkOf d xs in
-    either-taken (eqb (r .number) 0) (ranOf false d xs room) (refusedBy (r .number) (r .carries) d) (ran-taken false d xs room)
-    (check-taken (soundOf d) (ltb 1024 (length xs)) (ltb (cleanOf xs) (length xs)) (not (receivedIn (d .«processed_samples» + length xs))) (cleanOf xs) h)
+    either (λ (p : Detected). p .refusal .number ≡ 19 → ⊥) (eqb (r .number) 0) (ranOf false d xs room) (refusedBy (r .number) (r .carries) d) (ran-taken false d xs room)
+    (rest-taken d (blockRefusals (d .kept .stream .«processed_samples») xs) h refl)
 sound-taken d (Flush room) h = rw (numberOf, h) (ran-taken true d [] room)
-sound-taken d (Reset start) h = reset-taken (soundOf d) (not (startIn start)) d (resetTo d start) h
+sound-taken d (Reset start) h = rest-taken d (bare 13 (not (startIn start)) ∷ []) h refl
 
 -- no call of a run is refused by 19
 pub never-malformed : (c : VadConfig) (window : List Float) (rise : Float) (ks : List Call) (k : Call) → openOf c window rise .refusal ≡ 0 → Handed c rise → numberOf (play (openOf c window rise .detector) ks) k ≡ 19 → ⊥
@@ -385,7 +343,7 @@ never-malformed c window rise ks k z f = sound-taken (play (openOf c window rise
 
 -- every call on a malformed state is
 pub malformed-refused : (d : VadDetector) (k : Call) → soundOf d ≡ false → numberOf d k ≡ 19
-unfolding numberOf detectOf checkOf flushOf resetOf refusedBy
+unfolding numberOf detectOf checkOf firstOf flushOf resetOf refusedBy
 malformed-refused d (Detect xs room) h = rw (numberOf, h)
 malformed-refused d (Flush room) h = rw (numberOf, h)
 malformed-refused d (Reset start) h = rw (numberOf, h)

@@ -7,9 +7,8 @@ use Rattle.float.proofs.Unique.{only}
 use Rattle.vad_config.specs.declared.VadConfig.{VadConfig}
 use Rattle.vad_state.specs.declared.VadDetector.{VadDetector}
 use Rattle.vad_call.specs.declared.Detected.{Detected}
-use Rattle.vad_call.specs.declared.Refusal.{Refusal}
 use Rattle.vad_detector.specs.Opening.{openOf, resetOf}
-use Rattle.vad_detector.specs.Entries.{blockRefusal, detectOf, detectRows, flushOf, flushRows}
+use Rattle.vad_detector.specs.Entries.{detectOf, detectRows, flushOf, flushRows}
 use Rattle.vad_detector.specs.Readings.{undecidedRead, analyzedRead, rowsRead, talkRead, floorRead, segmentRead}
 use Rattle.vad_detector.specs.declared.Opened.{Opened}
 use Rattle.vad_detector.specs.declared.Reading.{Reading}
@@ -21,9 +20,6 @@ open-unique c window rise r q = only
 
 pub reset-unique : (d : VadDetector) (start : ℕ) (r q : Opened) → r ≡ resetOf d start → q ≡ resetOf d start → r ≡ q
 reset-unique d start r q = only
-
-pub block-refusal-unique : (received : ℕ) (xs : List Float) (r q : Refusal) → r ≡ blockRefusal received xs → q ≡ blockRefusal received xs → r ≡ q
-block-refusal-unique received xs r q = only
 
 pub detect-unique : (d : VadDetector) (xs : List Float) (room : ℕ) (r q : Detected) → r ≡ detectOf d xs room → q ≡ detectOf d xs room → r ≡ q
 detect-unique d xs room r q = only

@@ -8,24 +8,12 @@ use lib.Ieee.{Float}
 use Rattle.ranges.specs.Ranges.{cleanOf}
 use Rattle.vad_config.specs.Domain.{receivedIn}
 use Rattle.vad_state.specs.State.{soundOf}
+use Rattle.vad_call.specs.Checks.{checkOf}
 use Rattle.vad_call.specs.Calls.{refusedBy, ranOf, writtenOf}
 use Rattle.vad_state.specs.declared.VadDetector.{VadDetector}
-use Rattle.vad_call.specs.declared.Refusal.{Refusal}
 use Rattle.vad_call.specs.declared.Detected.{Detected}
 
--- 15, 16 and 17, from the samples received so far: 'block longer than 1,024', 'a sample outside the domain', which carries its place, 'samples received would pass 2^40'
-abbrev pub blockRefusal : ℕ → List Float → Refusal
-blockRefusal received xs =
-    cond (ltb 1024 (length xs)) (record { number = 15; carries = 0 })
-    (cond (ltb (cleanOf xs) (length xs)) (record { number = 16; carries = cleanOf xs })
-    (cond (not (receivedIn (received + length xs))) (record { number = 17; carries = 0 })
-    (record { number = 0; carries = 0 })))
-
--- 'Detect 19, 15, 16, 17'
-unfoldable pub checkOf : VadDetector → List Float → Refusal
-checkOf d xs = cond (not (soundOf d)) (record { number = 19; carries = 0 }) (blockRefusal (d .«processed_samples») xs)
-
--- .. and 18
+-- 'Detect 19, 15, 16, 17' .. and 18
 unfoldable pub detectOf : VadDetector → List Float → ℕ → Detected
 detectOf d xs room =
     let r = checkOf d xs in

@@ -1,98 +1,62 @@
 -- Opening and reset: document 01's refusals 1 to 14, and a state that has heard nothing.
 use mathlib.Core.Bool.{Bool, true, false, not, _&&_, cond}
-use mathlib.Core.List.{List, []}
+use mathlib.Core.List.{List, [], _∷_}
 use Prim.Native.Nat.{ℕ}
 use lib.Dec.{T, eqb}
 use lib.ListN.{length}
 use lib.Ieee.{Float, binary32, fits}
-use Rattle.vad_config.specs.Domain.{zero32, startIn}
+use Rattle.float.specs.Numbers.{zero32}
+use Rattle.vad_config.specs.Domain.{startIn}
+use Rattle.refusals.specs.Refusals.{bare, firstOf}
 use Rattle.vad_config.specs.Settings.{frameOf, lengthsOf, refusalOf}
+use Rattle.vad_config.specs.Config.{settingsOf}
 use Rattle.vad_config.specs.declared.VadConfig.{VadConfig}
 use Rattle.vad_segments.specs.declared.Rules.{Rules}
-use Rattle.vad_segments.specs.declared.ActiveSegment.the-variants.{Closed}
-use Rattle.vad_segments.specs.declared.Track.{Track}
+use Rattle.vad_segments.specs.Setters.{freshTrack}
 use Rattle.vad_state.specs.Arrays.{filledOf}
-use Rattle.vad_state.specs.State.{handedIn, windowOf, soundOf}
+use Rattle.ranges.specs.Sizes.{frameMost, warmupMost}
+use Rattle.vad_state.specs.State.{stateOf, weightsIn, windowOf, soundOf}
 use Rattle.vad_state.specs.declared.VadDetector.{VadDetector}
 use Rattle.vad_detector.specs.declared.Opened.{Opened}
 
 -- 14: 'window length differs from the frame, an entry is not in [0,1], or the rise weight is not in [0.5,1]'
-unfoldable pub handedOver : ℕ → List Float → Float → Bool
-handedOver frame window rise = eqb (length window) frame && handedIn window rise
+unfoldable pub weightsFit : ℕ → List Float → Float → Bool
+weightsFit frame window rise = eqb (length window) frame && weightsIn window rise
 
 -- 'Order: opening 1 to 14'
 unfoldable pub openRefusal : VadConfig → List Float → Float → ℕ
-openRefusal c window rise = cond (eqb (refusalOf c) 0) (cond (handedOver (frameOf c) window rise) 0 14) (refusalOf c)
+openRefusal c window rise = firstOf (bare (refusalOf c) (not (eqb (refusalOf c) 0)) ∷ bare 14 (not (weightsFit (frameOf c) window rise)) ∷ []) .number
 
 unfoldable pub rulesOf : VadConfig → Float → Rules
 rulesOf c rise = record { config = c; lengths = lengthsOf c; «speech_floor_rise» = rise }
 
--- nothing heard: the floor begins at `energy_floor`
-unfoldable pub freshTrack : Float → Track
-freshTrack least =
-    record {
-      «noise_floor» = least;
-      «last_segment_end» = 0;
-      «rows_reported» = 0;
-      «talk_samples» = 0;
-      «active_segment» = Closed;
-    }
-
-unfoldable pub freshOf : Rules → List Float → VadDetector
-freshOf r window =
+-- a state that holds no sound and no frame
+abbrev pub blankOf : Rules → Bool → Float → List Float → VadDetector
+blankOf r warming floor window =
+    stateOf
     record {
       rules = r;
-      window = filledOf 2048 window;
-      carry = filledOf 2048 [];
-      «carry_len» = 0;
-      «carry_start» = 0;
-      «processed_samples» = 0;
-      «pre_emphasis_prev» = zero32;
-      warming = true;
-      warmup = filledOf 300 [];
-      held = 0;
-      track = freshTrack (r .config .«energy_floor»);
+      stream = record { «carry_len» = 0; «carry_start» = 0; «processed_samples» = 0; «pre_emphasis_prev» = zero32 };
+      desk = record { warming = warming; held = 0; track = freshTrack floor };
     }
+    (filledOf frameMost window)
+    (filledOf frameMost [])
+    (filledOf warmupMost [])
+
+unfoldable pub freshOf : Rules → List Float → VadDetector
+freshOf r window = blankOf r true (r .config .«energy_floor») window
 
 unfoldable pub zeroRules : Rules
 zeroRules =
     record {
-      config = record {
-        «sample_rate» = 0;
-        «frame_duration» = 0;
-        «frame_overlap» = zero32;
-        «has_pre_emphasis» = false;
-        «pre_emphasis» = zero32;
-        «activation_ratio» = zero32;
-        «release_ratio» = zero32;
-        «min_speech_energy» = zero32;
-        «noise_smoothing» = zero32;
-        «energy_floor» = zero32;
-        «hangover_frames» = 0;
-        «speech_padding» = 0;
-        «min_speech_frames» = 0;
-        «stream_start_time» = 0;
-      };
+      config = settingsOf 0 0 zero32 false zero32 zero32 zero32 zero32 zero32 zero32 0 0 0 0;
       lengths = record { «frame_length» = 0; «hop_length» = 0; «warmup_frames» = 0; «padding_samples» = 0 };
       «speech_floor_rise» = zero32;
     }
 
 -- 'A refused opening returns an all-zero state'
 unfoldable pub nothingOpen : VadDetector
-nothingOpen =
-    record {
-      rules = zeroRules;
-      window = filledOf 2048 [];
-      carry = filledOf 2048 [];
-      «carry_len» = 0;
-      «carry_start» = 0;
-      «processed_samples» = 0;
-      «pre_emphasis_prev» = zero32;
-      warming = false;
-      warmup = filledOf 300 [];
-      held = 0;
-      track = freshTrack zero32;
-    }
+nothingOpen = blankOf zeroRules false zero32 []
 
 unfoldable pub openOf : VadConfig → List Float → Float → Opened
 openOf c window rise =
@@ -107,33 +71,21 @@ pub record Handed (c : VadConfig) (rise : Float) : Type 0 where
 
 -- ---- reset
 
+-- all settings but the last, the stream's start, which is new
 unfoldable pub restartedOf : VadConfig → ℕ → VadConfig
-restartedOf c start =
-    record {
-      «sample_rate» = c .«sample_rate»;
-      «frame_duration» = c .«frame_duration»;
-      «frame_overlap» = c .«frame_overlap»;
-      «has_pre_emphasis» = c .«has_pre_emphasis»;
-      «pre_emphasis» = c .«pre_emphasis»;
-      «activation_ratio» = c .«activation_ratio»;
-      «release_ratio» = c .«release_ratio»;
-      «min_speech_energy» = c .«min_speech_energy»;
-      «noise_smoothing» = c .«noise_smoothing»;
-      «energy_floor» = c .«energy_floor»;
-      «hangover_frames» = c .«hangover_frames»;
-      «speech_padding» = c .«speech_padding»;
-      «min_speech_frames» = c .«min_speech_frames»;
-      «stream_start_time» = start;
-    }
+restartedOf c =
+    settingsOf (c .«sample_rate») (c .«frame_duration») (c .«frame_overlap») (c .«has_pre_emphasis») (c .«pre_emphasis»)
+    (c .«activation_ratio») (c .«release_ratio») (c .«min_speech_energy») (c .«noise_smoothing») (c .«energy_floor»)
+    (c .«hangover_frames») (c .«speech_padding») (c .«min_speech_frames»)
 
 -- the settings with a new stream start; rows and talk are 0 again
 unfoldable pub resetTo : VadDetector → ℕ → VadDetector
 resetTo d start =
-    freshOf (record { config = restartedOf (d .rules .config) start; lengths = d .rules .lengths; «speech_floor_rise» = d .rules .«speech_floor_rise» }) (windowOf d)
+    let r = d .kept .rules in
+    freshOf (record { config = restartedOf (r .config) start; lengths = r .lengths; «speech_floor_rise» = r .«speech_floor_rise» }) (windowOf d)
 
 -- 'Reset 19, then 13 for the new start'
 unfoldable pub resetOf : VadDetector → ℕ → Opened
 resetOf d start =
-    cond (not (soundOf d)) (record { refusal = 19; detector = d })
-    (cond (not (startIn start)) (record { refusal = 13; detector = d })
-    (record { refusal = 0; detector = resetTo d start }))
+    let n = firstOf (bare 19 (not (soundOf d)) ∷ bare 13 (not (startIn start)) ∷ []) .number in
+    record { refusal = n; detector = cond (eqb n 0) (resetTo d start) d }

@@ -1,7 +1,7 @@
 -- What is read from a state: 'readings of any malformed state, are refused by 19'.
 use mathlib.Core.Bool.{true, false, cond}
 use Prim.Native.Nat.{ℕ}
-use Rattle.vad_config.specs.Domain.{zero32}
+use Rattle.float.specs.Numbers.{zero32}
 use Rattle.vad_segments.specs.Positions.{undecidedOf}
 use Rattle.vad_segments.specs.declared.ActiveSegment.{ActiveSegment}
 use Rattle.vad_segments.specs.declared.ActiveSegment.the-variants.{Closed, Open}
@@ -16,23 +16,23 @@ readOf d value = cond (soundOf d) (record { refusal = 0; value = value }) (recor
 
 -- 'Undecided position'
 unfoldable pub undecidedIn : VadDetector → ℕ
-undecidedIn d = undecidedOf (d .warming) (d .rules .lengths .«padding_samples») (d .«carry_start») (d .track)
+undecidedIn d = undecidedOf (d .kept .desk .warming) (d .kept .rules .lengths .«padding_samples») (d .kept .stream .«carry_start») (d .kept .desk .track)
 
 unfoldable pub undecidedRead : VadDetector → Reading
 undecidedRead d = readOf d (undecidedIn d)
 
 -- where the carry starts: the first sample that no complete frame has covered
 unfoldable pub analyzedRead : VadDetector → Reading
-analyzedRead d = readOf d (d .«carry_start»)
+analyzedRead d = readOf d (d .kept .stream .«carry_start»)
 
 unfoldable pub rowsRead : VadDetector → Reading
-rowsRead d = readOf d (d .track .«rows_reported»)
+rowsRead d = readOf d (d .kept .desk .track .«rows_reported»)
 
 unfoldable pub talkRead : VadDetector → Reading
-talkRead d = readOf d (d .track .«talk_samples»)
+talkRead d = readOf d (d .kept .desk .track .«talk_samples»)
 
 unfoldable pub floorRead : VadDetector → FloorReading
-floorRead d = cond (soundOf d) (record { refusal = 0; value = d .track .«noise_floor» }) (record { refusal = 19; value = zero32 })
+floorRead d = cond (soundOf d) (record { refusal = 0; value = d .kept .desk .track .«noise_floor» }) (record { refusal = 19; value = zero32 })
 
 -- the open segment's start, where one is open
 unfoldable pub openStart : ActiveSegment → SegmentReading
@@ -40,4 +40,4 @@ openStart Closed = record { refusal = 0; «is_open» = false; «start_sample» =
 openStart (Open s) = record { refusal = 0; «is_open» = true; «start_sample» = s .«start_sample» }
 
 unfoldable pub segmentRead : VadDetector → SegmentReading
-segmentRead d = cond (soundOf d) (openStart (d .track .«active_segment»)) (record { refusal = 19; «is_open» = false; «start_sample» = 0 })
+segmentRead d = cond (soundOf d) (openStart (d .kept .desk .track .«active_segment»)) (record { refusal = 19; «is_open» = false; «start_sample» = 0 })

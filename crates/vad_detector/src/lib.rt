@@ -1,25 +1,34 @@
 // The streaming voice activity detector: the Rust's src/vad/detector.rs. The state is passed in and returned, rows are lent.
 ghost use mathlib.Core.Path.{_≡_};
 ghost use mathlib.Core.Bool.{true};
-ghost use Prim.Native.Nat.{_≤_, _^_};
+ghost use Prim.Native.Nat.{_≤_};
 ghost use lib.ListN.{length};
+ghost use Rattle.ranges.specs.Sizes.{frameMost};
 ghost use Rattle.vad_state.specs.State.{soundOf};
-ghost use Rattle.vad_detector.specs.Opening.{handedOver, openRefusal, freshTrack, freshOf, zeroRules, nothingOpen, openOf, resetTo, resetOf};
-ghost use Rattle.vad_detector.specs.Entries.{blockRefusal, checkOf, detectOf, detectRows, flushOf, flushRows};
+ghost use Rattle.vad_call.specs.Checks.{checkOf};
+ghost use Rattle.vad_detector.specs.Opening.{weightsFit, openRefusal, blankOf, freshOf, zeroRules, nothingOpen, openOf, resetTo, resetOf};
+ghost use Rattle.vad_detector.specs.Entries.{detectOf, detectRows, flushOf, flushRows};
 ghost use Rattle.vad_detector.specs.Readings.{readOf, undecidedRead, analyzedRead, rowsRead, talkRead, floorRead, openStart, segmentRead};
+use ranges::BLOCK_MOST;
+use ranges::FRAME_MOST;
+use ranges::RECEIVED_MOST;
+use ranges::WARMUP_MOST;
+use refusals::Refusal;
 use vad_call::Detected;
-use vad_call::Refusal;
 use vad_call::refused;
 use vad_call::run;
 use vad_config::Lengths;
 use vad_config::VadConfig;
 use vad_segments::ActiveSegment;
 use vad_segments::Rules;
-use vad_segments::Track;
+use vad_segments::setters::fresh_track;
+use vad_state::Desk;
+use vad_state::Kept;
+use vad_state::Stream;
 use vad_state::VadDetector;
 use vad_state::arrays::filled;
-use vad_state::handed_in;
 use vad_state::sound;
+use vad_state::weights_in;
 
 // What opening and reset answer: 0 or the refusal's number, and the state.
 pub struct Opened {
@@ -45,40 +54,41 @@ pub struct SegmentReading {
     pub start_sample: u64,
 }
 
-// A track that has heard nothing.
-fn fresh_track(noise_floor: f32) -> Track
-    ensures { λ r. ⌜ r ≡ freshTrack «noise_floor» ⌝ }
+// No sound, and no frame held.
+fn blank(rules: Rules, warming: bool, noise_floor: f32, window: &[f32]) -> VadDetector
+    requires { ⌜ length (now window) ≤ frameMost ⌝ }
+    ensures { λ r. ⌜ r ≡ blankOf rules warming «noise_floor» (now (window .entry)) ⌝ }
 {
-    Track {
-        noise_floor,
-        last_segment_end: 0,
-        rows_reported: 0,
-        talk_samples: 0,
-        active_segment: ActiveSegment::Closed,
+    let stream = Stream {
+        carry_len: 0,
+        carry_start: 0,
+        processed_samples: 0,
+        pre_emphasis_prev: 0.0,
+    };
+    let desk = Desk {
+        warming,
+        held: 0,
+        track: fresh_track(noise_floor),
+    };
+    let kept = Kept {
+        rules,
+        stream,
+        desk,
+    };
+    VadDetector {
+        kept,
+        window: filled(window),
+        carry: [0.0; FRAME_MOST],
+        warmup: [0.0; WARMUP_MOST],
     }
 }
 
 // The Rust's `DetectorState::new`, beside what opening fixed.
 fn fresh(rules: Rules, window: &[f32]) -> VadDetector
-    requires { ⌜ length (now window) ≤ 2048 ⌝ }
+    requires { ⌜ length (now window) ≤ frameMost ⌝ }
     ensures { λ r. ⌜ r ≡ freshOf rules (now (window .entry)) ⌝ }
 {
-    let config = rules.config;
-    let kept = filled(window);
-    let track = fresh_track(config.energy_floor);
-    VadDetector {
-        rules,
-        window: kept,
-        carry: [0.0; 2048],
-        carry_len: 0,
-        carry_start: 0,
-        processed_samples: 0,
-        pre_emphasis_prev: 0.0,
-        warming: true,
-        warmup: [0.0; 300],
-        held: 0,
-        track,
-    }
+    blank(rules, true, rules.config.energy_floor, window)
 }
 
 fn zero_rules() -> Rules
@@ -116,31 +126,18 @@ fn zero_rules() -> Rules
 fn nothing_open() -> VadDetector
     ensures { λ r. ⌜ r ≡ nothingOpen ⌝ }
 {
-    let rules = zero_rules();
-    let track = fresh_track(0.0);
-    VadDetector {
-        rules,
-        window: [0.0; 2048],
-        carry: [0.0; 2048],
-        carry_len: 0,
-        carry_start: 0,
-        processed_samples: 0,
-        pre_emphasis_prev: 0.0,
-        warming: false,
-        warmup: [0.0; 300],
-        held: 0,
-        track,
-    }
+    let none = [0.0; 1];
+    blank(zero_rules(), false, 0.0, &none[0..0])
 }
 
 // 14: what the host hands in, against the frame's length.
-fn handed_over(frame_length: usize, window: &[f32], rise: f32) -> bool
-    ensures { λ r. ⌜ r ≡ handedOver «frame_length» (now (window .entry)) rise ⌝ }
+fn weights_fit(frame_length: usize, window: &[f32], rise: f32) -> bool
+    ensures { λ r. ⌜ r ≡ weightsFit «frame_length» (now (window .entry)) rise ⌝ }
 {
     if window.len() != frame_length {
         return false;
     }
-    handed_in(window, rise)
+    weights_in(window, rise)
 }
 
 // 1 to 14.
@@ -152,7 +149,7 @@ fn opening_refusal(config: VadConfig, window: &[f32], speech_floor_rise: f32) ->
         return refusal;
     }
     let lengths = vad_config::lengths_of(config);
-    if !handed_over(lengths.frame_length, window, speech_floor_rise) {
+    if !weights_fit(lengths.frame_length, window, speech_floor_rise) {
         return 14;
     }
     0
@@ -185,7 +182,8 @@ fn restarted(detector: VadDetector, stream_start_time: u64) -> VadDetector
     requires { ⌜ soundOf detector ≡ true ⌝ }
     ensures { λ r. ⌜ r ≡ resetTo detector «stream_start_time» ⌝ }
 {
-    let rules = detector.rules;
+    let kept = detector.kept;
+    let rules = kept.rules;
     let mut config = rules.config;
     config.stream_start_time = stream_start_time;
     let lengths = rules.lengths;
@@ -224,47 +222,18 @@ pub fn reset(detector: VadDetector, stream_start_time: u64) -> Opened
     }
 }
 
-// 15, 16 and 17, in this order. The state is not looked at, so that it can stand anywhere.
-pub fn block_refusal(received: u64, samples: &[f32]) -> Refusal
-    requires { ⌜ received ≤ 2 ^ 40 ⌝ }
-    ensures { λ r. ⌜ r ≡ blockRefusal received (now (samples .entry)) ⌝ }
-{
-    if 1024 < samples.len() {
-        return Refusal {
-            number: 15,
-            carries: 0,
-        };
-    }
-    let place = ranges::clean(samples);
-    if place < samples.len() {
-        return Refusal {
-            number: 16,
-            carries: place,
-        };
-    }
-    if 0x100_0000_0000 < received + samples.len() as u64 {
-        return Refusal {
-            number: 17,
-            carries: 0,
-        };
-    }
-    Refusal {
-        number: 0,
-        carries: 0,
-    }
-}
-
-// 19 before them.
+// The arrays are lent, so that none is copied.
 fn check(detector: VadDetector, samples: &[f32]) -> Refusal
     ensures { λ r. ⌜ r ≡ checkOf detector (now (samples .entry)) ⌝ }
 {
-    if !sound(detector) {
-        return Refusal {
-            number: 19,
-            carries: 0,
-        };
-    }
-    block_refusal(detector.processed_samples, samples)
+    let kept = detector.kept;
+    vad_call::checks::check(
+        kept,
+        &detector.window,
+        &detector.carry,
+        &detector.warmup,
+        samples,
+    )
 }
 
 // Hears the next block of the stream. Blocks can be any size up to 1,024: what does not fill a frame yet waits for the next call, and a segment that is still open is reported once it closes.
@@ -307,11 +276,13 @@ fn read(detector: VadDetector, value: u64) -> Reading
 pub fn undecided_from(detector: VadDetector) -> Reading
     ensures { λ r. ⌜ r ≡ undecidedRead detector ⌝ }
 {
-    let track = detector.track;
+    let kept = detector.kept;
+    let desk = kept.desk;
+    let track = desk.track;
     let position = vad_segments::positions::undecided_from(
-        detector.warming,
-        detector.rules.lengths.padding_samples as u64,
-        detector.carry_start,
+        desk.warming,
+        kept.rules.lengths.padding_samples as u64,
+        kept.stream.carry_start,
         track,
     );
     read(detector, position)
@@ -321,7 +292,7 @@ pub fn undecided_from(detector: VadDetector) -> Reading
 pub fn analyzed_until(detector: VadDetector) -> Reading
     ensures { λ r. ⌜ r ≡ analyzedRead detector ⌝ }
 {
-    read(detector, detector.carry_start)
+    read(detector, detector.kept.stream.carry_start)
 }
 
 // The start of the segment that is open, if any.
@@ -329,7 +300,9 @@ pub fn active_segment_start_sample(detector: VadDetector) -> SegmentReading
     ensures { λ r. ⌜ r ≡ segmentRead detector ⌝ }
 {
     if sound(detector) {
-        let track = detector.track;
+        let kept = detector.kept;
+        let desk = kept.desk;
+        let track = desk.track;
         let active = track.active_segment;
         return open_start(active);
     }
@@ -361,14 +334,14 @@ fn open_start(active: ActiveSegment) -> SegmentReading
 pub fn rows_reported(detector: VadDetector) -> Reading
     ensures { λ r. ⌜ r ≡ rowsRead detector ⌝ }
 {
-    read(detector, detector.track.rows_reported)
+    read(detector, detector.kept.desk.track.rows_reported)
 }
 
 // Their samples.
 pub fn talk_samples(detector: VadDetector) -> Reading
     ensures { λ r. ⌜ r ≡ talkRead detector ⌝ }
 {
-    read(detector, detector.track.talk_samples)
+    read(detector, detector.kept.desk.track.talk_samples)
 }
 
 // The running estimate of the background's energy.
@@ -378,7 +351,7 @@ pub fn noise_floor(detector: VadDetector) -> FloorReading
     if sound(detector) {
         return FloorReading {
             refusal: 0,
-            value: detector.track.noise_floor,
+            value: detector.kept.desk.track.noise_floor,
         };
     }
     FloorReading {

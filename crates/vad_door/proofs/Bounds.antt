@@ -12,8 +12,7 @@ use Rattle.ranges.specs.Ranges.{cleanOf}
 use Rattle.vad_config.specs.Domain.{receivedIn}
 use Rattle.vad_frames.specs.Emphasis.{coefficientOf, emphasized}
 use Rattle.vad_frames.proofs.Laws.{emphasized-length}
-use Rattle.vad_segments.specs.Closing.{reported}
-use Rattle.vad_segments.specs.Positions.{undecidedOf}
+use Rattle.vad_row.specs.Rows.{reported}
 use Rattle.vad_segments.specs.Judging.{judgedOf, trackAfter, rowsOf, endedOf, callRows}
 use Rattle.vad_segments.specs.declared.Rules.{Rules}
 use Rattle.vad_segments.specs.declared.FrameMetrics.{FrameMetrics}
@@ -21,22 +20,24 @@ use Rattle.vad_segments.specs.declared.ActiveSegment.{ActiveSegment}
 use Rattle.vad_segments.specs.declared.ActiveSegment.the-variants.{Closed, Open}
 use Rattle.vad_segments.specs.declared.Track.{Track}
 use Rattle.vad_segments.proofs.Ordered.{frames-length}
-use Rattle.vad_segments.proofs.Rooms.{report-le}
-use Rattle.vad_segments.proofs.Undecided.{undecided-le}
+use Rattle.vad_row.proofs.Laws.{report-le}
+use Rattle.ranges.specs.Sizes.{blockMost, receivedMost}
 use Rattle.vad_state.specs.State.{carriedOf, soundOf}
-use Rattle.vad_state.specs.Kept.{wholeOf}
 use Rattle.vad_state.specs.declared.Kept.{Kept}
 use Rattle.vad_state.specs.declared.VadDetector.{VadDetector}
 use Rattle.vad_state.proofs.Parts.{ActiveIn, Sound, parts, frame-high}
-use Rattle.vad_call.specs.Calls.{rowsOfCall, valuesOf, measuredOf, progressOf, carryAfter, holdingOf, keptOf, dueOf, seededOf, gridStart, framesDue, verdictOf, rowsDue, tooMany, refusedBy, acceptedOf, concludedOf, ranOf}
+use Rattle.vad_call.specs.Calls.{valuesMost, rowsOfCall, valuesOf, measuredOf, streamAfter, carryAfter, holdingOf, heldAfter, dueOf, seededOf, gridStart, framesDue, verdictOf, rowsDue, tooMany, refusedBy, acceptedOf, concludedOf, ranOf, energiesMost}
 use Rattle.vad_call.specs.declared.Detected.{Detected}
-use Rattle.vad_call.specs.declared.Refusal.{Refusal}
 use Rattle.vad_call.proofs.Calls.{measured-few}
-use Rattle.vad_detector.specs.Entries.{checkOf}
+use Rattle.vad_call.specs.Checks.{blockRefusals, checkOf}
+use Rattle.refusals.specs.Refusals.{bare}
+use Rattle.refusals.proofs.First.{decided}
 use Rattle.vad_detector.specs.Readings.{openStart}
-use Rattle.vad_lent.specs.Lent.{wholeAt}
+use Rattle.vad_detector.specs.declared.SegmentReading.{SegmentReading}
+use Rattle.vad_lent.specs.Lent.{stateAt}
 use Rattle.vad_memory.proofs.RoundTrip.{Shaped}
 use Rattle.vad_door.specs.DetectorDoor.{startWord}
+use Rattle.vad_door.specs.Inside.{WordsSmall}
 use Rattle.vad_door.proofs.Carried.{ran-shaped}
 
 -- ---- a call that no check refused: 18 or 0
@@ -45,10 +46,10 @@ module _ (finish : Bool) (d : VadDetector) (xs : List Float) (room : ℕ) where
   abbrev accepted : Detected
   accepted =
       let es = measuredOf finish d xs in
-      acceptedOf d (progressOf finish d xs) (holdingOf finish d es) (carryAfter finish d xs) (keptOf finish d es) (verdictOf finish d (d .«processed_samples» + length xs) (dueOf finish d es)) (length (rowsOfCall finish d xs))
+      acceptedOf d (streamAfter finish d xs) (carryAfter finish d xs) (holdingOf finish (d .kept) es) (heldAfter finish (d .kept) es) (verdictOf finish (d .kept) (d .kept .stream .«processed_samples» + length xs) (dueOf finish (d .kept) es)) (length (rowsOfCall finish d xs))
 
   ran-ways : (P : Detected → Type 0) → P (refusedBy 18 (length (rowsOfCall finish d xs)) d) → P accepted → P (ranOf finish d xs room)
-  unfolding ranOf concludedOf progressOf rowsOfCall
+  unfolding ranOf concludedOf streamAfter rowsOfCall
   ran-ways P stuck done = go (tooMany (rowsOfCall finish d xs) room)
     where
       go : (b : Bool) → P (cond b (refusedBy 18 (length (rowsOfCall finish d xs)) d) accepted)
@@ -86,33 +87,33 @@ module _ (r : Rules) (limit : ℕ) where
       omega (arith, length-append (rowsOf r limit t fs) (reported (e .report)))
 
 module _ (finish : Bool) (d : VadDetector) where
-  due-few : (es : List Float) → length (dueOf finish d es) ≤ length es
+  due-few : (es : List Float) → length (dueOf finish (d .kept) es) ≤ length es
   unfolding dueOf
-  due-few es = go (holdingOf finish d es)
+  due-few es = go (holdingOf finish (d .kept) es)
     where
       go : (b : Bool) → length (cond b [] es) ≤ length es
       go true = omega arith
       go false = omega arith
 
-  rows-due-few : (received : ℕ) (due : List Float) → length (rowsDue finish d received due) ≤ length due + 1
+  rows-due-few : (received : ℕ) (due : List Float) → length (rowsDue finish (d .kept) received due) ≤ length due + 1
   unfolding rowsDue framesDue
   rows-due-few received due =
-      let most = call-rows-few (d .rules) received finish (seededOf d due) (framesDue d received due) in
-      omega (arith, frames-length (d .rules .lengths) received (gridStart d) due)
+      let most = call-rows-few (d .kept .rules) received finish (seededOf (d .kept) due) (framesDue (d .kept) received due) in
+      omega (arith, frames-length (d .kept .rules .lengths) received (gridStart (d .kept)) due)
 
-  module _ (s : Sound d) (xs : List Float) (short : length xs ≤ 1024) where
+  module _ (s : Sound d) (xs : List Float) (short : length xs ≤ blockMost) where
     -- the lists of a definition's detector can have any length, so the carry is bounded by its use
-    values-few : length (valuesOf d xs) ≤ 3072
+    values-few : length (valuesOf d xs) ≤ valuesMost
     unfolding valuesOf carriedOf
     values-few =
-        let a = coefficientOf (d .rules .config .«has_pre_emphasis») (d .rules .config .«pre_emphasis») in
-        let carried = length-take (d .«carry_len») (d .carry) in
-        let block = emphasized-length a (d .«pre_emphasis_prev») xs in
+        let a = coefficientOf (d .kept .rules .config .«has_pre_emphasis») (d .kept .rules .config .«pre_emphasis») in
+        let carried = length-take (d .kept .stream .«carry_len») (d .carry) in
+        let block = emphasized-length a (d .kept .stream .«pre_emphasis_prev») xs in
         let less = s .short in
         let most = frame-high d s in
-        omega (arith, length-append (carriedOf d) (emphasized a (d .«pre_emphasis_prev») xs))
+        omega (arith, length-append (carriedOf d) (emphasized a (d .kept .stream .«pre_emphasis_prev») xs))
 
-    measured-small : length (measuredOf finish d xs) ≤ 1024
+    measured-small : length (measuredOf finish d xs) ≤ energiesMost
     unfolding measuredOf
     measured-small = measured-few finish d s (valuesOf d xs) values-few
 
@@ -122,28 +123,24 @@ module _ (finish : Bool) (d : VadDetector) where
         let es = measuredOf finish d xs in
         let m = measured-small in
         let n = due-few es in
-        let k = rows-due-few (d .«processed_samples» + length xs) (dueOf finish d es) in
+        let k = rows-due-few (d .kept .stream .«processed_samples» + length xs) (dueOf finish (d .kept) es) in
         ran-ways finish d xs room (λ p. p .refusal .carries ≤ 1025) (omega arith) (omega arith)
 
 -- ---- 16: the place of a sample
 
-numbered : ℕ → ℕ → Refusal
-numbered number carries = record { number = number; carries = carries }
-
-placed : (s l b f : Bool) (p : ℕ) → (l ≡ false → b ≡ true → p ≤ 1024)
-    → cond (not s) (numbered 19 0) (cond l (numbered 15 0) (cond b (numbered 16 p) (cond f (numbered 17 0) (numbered 0 0)))) .carries ≤ 1024
-unfolding numbered
-placed true false true f p h = h refl refl
-placed true false false true p h = omega arith
-placed true false false false p h = omega arith
-placed true true b f p h = omega arith
-placed false l b f p h = omega arith
-
-pub check-small : (d : VadDetector) (xs : List Float) → checkOf d xs .carries ≤ 1024
-unfolding checkOf numbered
+pub check-small : (d : VadDetector) (xs : List Float) → checkOf d xs .carries ≤ blockMost
+unfolding checkOf
 check-small d xs =
-    placed (soundOf d) (ltb 1024 (length xs)) (ltb (cleanOf xs) (length xs)) (not (receivedIn (d .«processed_samples» + length xs))) (cleanOf xs)
-    (λ l b. let m : length xs ≤ 1024 = ltb-false 1024 (length xs) l in let n : cleanOf xs < length xs = ltb-true (cleanOf xs) (length xs) b in omega arith)
+    decided (λ r. r .carries ≤ blockMost) (bare 19 (not (soundOf d)) ∷ blockRefusals (d .kept .stream .«processed_samples») xs) (
+      (λ s. omega arith),
+      λ s. (
+        (λ l. omega arith),
+        λ l. (
+          (λ b. let m : length xs ≤ blockMost = ltb-false blockMost (length xs) l in let n : cleanOf xs < length xs = ltb-true (cleanOf xs) (length xs) b in omega arith),
+          λ b. ((λ f. omega arith), λ f. omega arith),
+        ),
+      ),
+    )
 
 -- ---- readings of a sound state
 
@@ -152,35 +149,25 @@ unfolding openStart
 start-in hangover received last Closed h = omega arith
 start-in hangover received last (Open s) h = h .start
 
-module _ (k : Kept) (fs : List Float) (h : soundOf (wholeAt k fs) ≡ true) where
-  told : Sound (wholeAt k fs)
-  told = parts (wholeAt k fs) h
+module _ (k : Kept) (fs : List Float) (h : soundOf (stateAt k fs) ≡ true) where
+  told : Sound (stateAt k fs)
+  told = parts (stateAt k fs) h
 
-  pub analyzed-small : k .«carry_start» < 2 ^ 55
-  unfolding wholeAt wholeOf
-  analyzed-small = let j = told .joined in let m = told .received in omega arith
+  -- what `word_of` asks
+  pub words-small : WordsSmall k
+  unfolding stateAt
+  words-small =
+      let most = told .received in
+      let joined = told .joined in
+      let ended = told .ended in
+      let talk = told .talk in
+      let start = start-in (k .rules .config .«hangover_frames») (k .stream .«processed_samples») (k .desk .track .«last_segment_end») (k .desk .track .«active_segment») (told .active) in
+      (omega arith, omega arith, omega (arith, told .rows), omega arith)
 
-  pub undecided-small : undecidedOf (k .warming) (k .rules .lengths .«padding_samples») (k .«carry_start») (k .track) < 2 ^ 55
-  undecided-small = let m = analyzed-small in let l = undecided-le (k .rules .lengths .«padding_samples») (k .«carry_start») (k .track) (k .warming) in omega arith
-
-  pub rows-small : k .track .«rows_reported» < 2 ^ 55
-  unfolding wholeAt wholeOf
-  rows-small = let n = told .rows in let m = told .received in omega arith
-
-  pub talk-small : k .track .«talk_samples» < 2 ^ 55
-  unfolding wholeAt wholeOf
-  talk-small = let n = told .talk in let l = told .ended in let m = told .received in omega arith
-
-  pub start-small : openStart (k .track .«active_segment») .«start_sample» < 2 ^ 54
-  unfolding wholeAt wholeOf
-  start-small =
-      let m = told .received in
-      let l = start-in (k .rules .config .«hangover_frames») (k .«processed_samples») (k .track .«last_segment_end») (k .track .«active_segment») (told .active) in
-      omega arith
-
-  pub word-small : (w : ℕ) → w ≡ startWord (openStart (k .track .«active_segment»)) → w < 2 ^ 55
-  word-small w e = subst (λ (n : ℕ). n < 2 ^ 55) (sym e) (go (openStart (k .track .«active_segment») .«is_open»))
-    where
-      go : (b : Bool) → cond b (suc (openStart (k .track .«active_segment») .«start_sample»)) 0 < 2 ^ 55
-      go true = let m = start-small in omega arith
-      go false = omega arith
+-- the word of a start is one more than it
+pub start-word-small : (r : SegmentReading) → r .«start_sample» ≤ receivedMost → startWord r < 2 ^ 55
+start-word-small r h = go (r .«is_open»)
+  where
+    go : (b : Bool) → cond b (suc (r .«start_sample»)) 0 < 2 ^ 55
+    go true = omega arith
+    go false = omega arith

@@ -5,14 +5,16 @@ use Prim.Native.Nat.{ℕ}
 use lib.Ieee.{Float}
 use Rattle.float.proofs.Unique.{only}
 use Rattle.vad_config.specs.declared.VadConfig.{VadConfig}
-use Rattle.vad_door.specs.DetectorDoor.{restarted, undecidedAnswer, analyzedAnswer, rowsAnswer, talkAnswer, floorAnswer, segmentAnswer}
+use Rattle.vad_detector.specs.Readings.{undecidedRead, analyzedRead, rowsRead, talkRead}
+use Rattle.vad_detector.specs.Run.{Reset}
+use Rattle.vad_door.specs.DetectorDoor.{answered, readAnswer, floorAnswer, segmentAnswer}
 use Rattle.vad_door.proofs.Door.{OpenEnds, CallEnds, DetectEnds, FlushEnds}
 
 module _ (ns : List ℕ) (fs : List Float) (r q : ℕ) (ms ls : List ℕ) (gs hs : List Float) where
   pub open-unique : (c : VadConfig) (window : List Float) (rise : Float) → OpenEnds c window rise ns fs r ms gs → OpenEnds c window rise ns fs q ls hs → (r ≡ q) × (ms ≡ ls) × (gs ≡ hs)
   open-unique c window rise h k = (only (h .0) (k .0), only (h .1 .0) (k .1 .0), only (h .1 .1) (k .1 .1))
 
-  pub reset-unique : (start : ℕ) → CallEnds ns fs (restarted ns fs start) r ms gs → CallEnds ns fs (restarted ns fs start) q ls hs → (r ≡ q) × (ms ≡ ls) × (gs ≡ hs)
+  pub reset-unique : (start : ℕ) → CallEnds ns fs (answered (Reset start)) r ms gs → CallEnds ns fs (answered (Reset start)) q ls hs → (r ≡ q) × (ms ≡ ls) × (gs ≡ hs)
   reset-unique start h k = (only (h .0) (k .0), only (h .1 .0) (k .1 .0), only (h .1 .1) (k .1 .1))
 
 -- ---- with the rows lent
@@ -27,16 +29,16 @@ module _ (ns : List ℕ) (fs : List Float) (rows : List ℕ) (r q : ℕ) (ms ls 
 -- ---- readings
 
 module _ (ns : List ℕ) (fs : List Float) (r q : ℕ) where
-  pub undecided-unique : r ≡ undecidedAnswer ns fs → q ≡ undecidedAnswer ns fs → r ≡ q
+  pub undecided-unique : r ≡ readAnswer ns fs undecidedRead → q ≡ readAnswer ns fs undecidedRead → r ≡ q
   undecided-unique = only
 
-  pub analyzed-unique : r ≡ analyzedAnswer ns fs → q ≡ analyzedAnswer ns fs → r ≡ q
+  pub analyzed-unique : r ≡ readAnswer ns fs analyzedRead → q ≡ readAnswer ns fs analyzedRead → r ≡ q
   analyzed-unique = only
 
-  pub rows-unique : r ≡ rowsAnswer ns fs → q ≡ rowsAnswer ns fs → r ≡ q
+  pub rows-unique : r ≡ readAnswer ns fs rowsRead → q ≡ readAnswer ns fs rowsRead → r ≡ q
   rows-unique = only
 
-  pub talk-unique : r ≡ talkAnswer ns fs → q ≡ talkAnswer ns fs → r ≡ q
+  pub talk-unique : r ≡ readAnswer ns fs talkRead → q ≡ readAnswer ns fs talkRead → r ≡ q
   talk-unique = only
 
   pub floor-unique : r ≡ floorAnswer ns fs → q ≡ floorAnswer ns fs → r ≡ q

@@ -4,14 +4,15 @@ use mathlib.Core.List.{List, [], _∷_}
 use Prim.Native.Nat.{ℕ, suc}
 use lib.Dec.{eqb}
 use lib.Ieee.{Float, binary32, toBits}
-use Rattle.answers.specs.Answers.{packed}
+use Rattle.refusals.specs.Answers.{packed}
 use Rattle.vad_config.specs.declared.VadConfig.{VadConfig}
 use Rattle.vad_call.specs.Calls.{noTally, refusedBy}
+use Rattle.vad_state.specs.declared.VadDetector.{VadDetector}
 use Rattle.vad_call.specs.declared.Detected.{Detected}
 use Rattle.vad_detector.specs.Opening.{openOf, resetOf}
 use Rattle.vad_detector.specs.Entries.{detectOf, detectRows, flushOf, flushRows}
 use Rattle.vad_detector.specs.Run.{Call, Detect, Flush, Reset}
-use Rattle.vad_detector.specs.Readings.{undecidedRead, analyzedRead, rowsRead, talkRead, floorRead, segmentRead}
+use Rattle.vad_detector.specs.Readings.{floorRead, segmentRead}
 use Rattle.vad_detector.specs.declared.Reading.{Reading}
 use Rattle.vad_detector.specs.declared.SegmentReading.{SegmentReading}
 use Rattle.vad_memory.specs.DetectorState.{detectorAt, longEnough, readable, numbersWritten, floatsWritten}
@@ -25,29 +26,35 @@ module _ (c : VadConfig) (window : List Float) (rise : Float) (ns : List ℕ) (f
 
   -- a refused opening leaves the all-zero state
   unfoldable pub openNumbers : List ℕ
-  openNumbers = cond (longEnough ns fs) (numbersWritten (openOf c window rise .detector) noTally ns) ns
+  openNumbers = cond (longEnough ns fs) (numbersWritten (openOf c window rise .detector .kept) noTally ns) ns
 
   unfoldable pub openFloats : List Float
   openFloats = cond (longEnough ns fs) (floatsWritten (openOf c window rise .detector) fs) fs
 
 -- ---- detect, flush and reset
 
--- given what the core answers: a refusal, the unreadable state's 19 included, leaves the memory as it is
-module _ (ns : List ℕ) (fs : List Float) (p : Detected) where
+-- what the detector answers to a call; to a reset in the form of a call's answer: the number, nothing carried, and a tally of zeros
+abbrev pub answered : Call → VadDetector → Detected
+answered (Detect xs room) d = detectOf d xs room
+answered (Flush room) d = flushOf d room
+answered (Reset start) d = let r = resetOf d start in refusedBy (r .refusal) 0 (r .detector)
+
+-- an answer on the state that the memory holds: a refusal, the unreadable state's 19 included, leaves the memory as it is
+module _ (ns : List ℕ) (fs : List Float) (answer : VadDetector → Detected) where
   unfoldable pub callAnswer : ℕ
-  callAnswer = cond (readable ns fs) (packed (p .refusal .number) (p .refusal .carries)) 19
+  callAnswer =
+      let r = answer (detectorAt ns fs) .refusal in
+      cond (readable ns fs) (packed (r .number) (r .carries)) 19
 
   unfoldable pub callNumbers : List ℕ
-  callNumbers = cond (readable ns fs && eqb (p .refusal .number) 0) (numbersWritten (p .detector) (p .tally) ns) ns
+  callNumbers =
+      let p = answer (detectorAt ns fs) in
+      cond (readable ns fs && eqb (p .refusal .number) 0) (numbersWritten (p .detector .kept) (p .tally) ns) ns
 
   unfoldable pub callFloats : List Float
-  callFloats = cond (readable ns fs && eqb (p .refusal .number) 0) (floatsWritten (p .detector) fs) fs
-
-abbrev pub detected : List ℕ → List Float → List Float → ℕ → Detected
-detected ns fs xs room = detectOf (detectorAt ns fs) xs room
-
-abbrev pub flushed : List ℕ → List Float → ℕ → Detected
-flushed ns fs room = flushOf (detectorAt ns fs) room
+  callFloats =
+      let p = answer (detectorAt ns fs) in
+      cond (readable ns fs && eqb (p .refusal .number) 0) (floatsWritten (p .detector) fs) fs
 
 unfoldable pub detectedRows : List ℕ → List Float → List Float → List ℕ → List ℕ
 detectedRows ns fs xs rows = cond (readable ns fs) (detectRows (detectorAt ns fs) xs rows) rows
@@ -55,45 +62,24 @@ detectedRows ns fs xs rows = cond (readable ns fs) (detectRows (detectorAt ns fs
 unfoldable pub flushedRows : List ℕ → List Float → List ℕ → List ℕ
 flushedRows ns fs rows = cond (readable ns fs) (flushRows (detectorAt ns fs) rows) rows
 
--- ---- reset: nothing was counted by it
-
--- in the form of a call's answer: the number, 0 where it is accepted, nothing carried, and a tally of zeros
-abbrev pub restarted : List ℕ → List Float → ℕ → Detected
-restarted ns fs start = let r = resetOf (detectorAt ns fs) start in refusedBy (r .refusal) 0 (r .detector)
-
 -- ---- a run
-
--- what the detector answers to a call, by what the memory holds
-unfoldable pub answered : List ℕ → List Float → Call → Detected
-answered ns fs (Detect xs room) = detected ns fs xs room
-answered ns fs (Flush room) = flushed ns fs room
-answered ns fs (Reset start) = restarted ns fs start
 
 -- the memory after calls
 unfoldable pub numbersAfter : List ℕ → List Float → List Call → List ℕ
 numbersAfter ns fs [] = ns
-numbersAfter ns fs (k ∷ ks) = numbersAfter (callNumbers ns fs (answered ns fs k)) (callFloats ns fs (answered ns fs k)) ks
+numbersAfter ns fs (k ∷ ks) = numbersAfter (callNumbers ns fs (answered k)) (callFloats ns fs (answered k)) ks
 
 unfoldable pub floatsAfter : List ℕ → List Float → List Call → List Float
 floatsAfter ns fs [] = fs
-floatsAfter ns fs (k ∷ ks) = floatsAfter (callNumbers ns fs (answered ns fs k)) (callFloats ns fs (answered ns fs k)) ks
+floatsAfter ns fs (k ∷ ks) = floatsAfter (callNumbers ns fs (answered k)) (callFloats ns fs (answered k)) ks
 
 -- ---- readings
 
-unfoldable pub readAnswer : List ℕ → List Float → Reading → ℕ
-readAnswer ns fs r = cond (readable ns fs) (packed (r .refusal) (r .value)) 19
-
-abbrev pub undecidedAnswer : List ℕ → List Float → ℕ
-undecidedAnswer ns fs = readAnswer ns fs (undecidedRead (detectorAt ns fs))
-
-abbrev pub analyzedAnswer : List ℕ → List Float → ℕ
-analyzedAnswer ns fs = readAnswer ns fs (analyzedRead (detectorAt ns fs))
-
-abbrev pub rowsAnswer : List ℕ → List Float → ℕ
-rowsAnswer ns fs = readAnswer ns fs (rowsRead (detectorAt ns fs))
-
-abbrev pub talkAnswer : List ℕ → List Float → ℕ
-talkAnswer ns fs = readAnswer ns fs (talkRead (detectorAt ns fs))
+-- a position or a count
+unfoldable pub readAnswer : List ℕ → List Float → (VadDetector → Reading) → ℕ
+readAnswer ns fs read =
+    let r = read (detectorAt ns fs) in
+    cond (readable ns fs) (packed (r .refusal) (r .value)) 19
 
 -- carries the floor's bits
 unfoldable pub floorAnswer : List ℕ → List Float → ℕ

@@ -10,13 +10,15 @@ use lib.IntN.{pos}
 use lib.ListN.{length, take, length-take}
 use lib.Ieee.{Float, nan, inf, fin, binary32, fits, up, down, ofBits, ofInt, neg, add, mul, sum, round}
 use lib.Ieee.Fits.{div-fits}
-use Rattle.lists.specs.Every.{Every, every-take}
+use Rattle.lists.specs.Every.{Every}
+use Rattle.lists.proofs.Every.{every-take}
 use Rattle.float.specs.Fused.{fusedOf}
 use Rattle.float.specs.Root.{rootOf}
+use Rattle.float.specs.Numbers.{zero32 as +0}
 use Rattle.float.proofs.Align.{sum-minus-zero}
 use Rattle.float.proofs.Bounds.{Mag, Low, Yields, held-small, held-scaled, low-wider, mul-weight, square-low, add-low, div-whole-low, fused-weight, root-low, neg-mag, found, found-fits}
 use Rattle.vad_frames.specs.Emphasis.{emphasizedOf, emphasized, lastOf}
-use Rattle.vad_frames.specs.Energy.{zero as +0, squareOf, squaresFrom, meanSquareOf, energyOf}
+use Rattle.vad_frames.specs.Energy.{squareOf, squaresFrom, meanSquareOf, energyOf}
 use Rattle.vad_frames.specs.Grid.{taken, framesFrom, framesOf, energiesOf}
 
 -- ---- pre-emphasis

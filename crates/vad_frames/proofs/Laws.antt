@@ -11,7 +11,7 @@ use lib.ListN.{length, take, drop, getD, length-append, length-take, length-drop
 use lib.Seq.{take-append-le, drop-append-le, drop-length, drop-nil, drop-drop}
 use lib.Ieee.{Float}
 use borrow.Author.Tests.{le-leb, leb-true}
-use Rattle.lists.specs.Every.{length-map, map-append}
+use Rattle.lists.proofs.Every.{length-map, map-append}
 use Rattle.float.proofs.Sticky.{side}
 use Rattle.vad_frames.specs.Emphasis.{emphasizedOf, emphasized, lastOf}
 use Rattle.vad_frames.specs.Energy.{energyOf}

@@ -1,13 +1,14 @@
 -- Document 01's 'Frames': pre-emphasis.
 use mathlib.Core.Bool.{Bool, cond}
 use mathlib.Core.List.{List, [], _∷_}
-use lib.Ieee.{Float, binary32, ofBits, neg}
+use lib.Ieee.{Float, neg}
+use Rattle.float.specs.Numbers.{zero32}
 use Rattle.float.specs.Finite.{orZero}
 use Rattle.float.specs.Fused.{fusedOf}
 
 -- 'a is 0 when absent'
 unfoldable pub coefficientOf : Bool → Float → Float
-coefficientOf present a = cond present a (ofBits binary32 0)
+coefficientOf present a = cond present a zero32
 
 -- 'Pre-emphasis is fused: y = x − a·previous'; 0 stands where there is no number, and `emphasized-mag` in proofs/Bounds shows that in the domain there always is one
 unfoldable pub emphasizedOf : Float → Float → Float → Float

@@ -2,12 +2,10 @@
 use mathlib.Core.List.{List, [], _∷_}
 use lib.ListN.{length}
 use lib.IntN.{pos}
-use lib.Ieee.{Float, binary32, ofBits, ofInt, add, mul, div}
+use lib.Ieee.{Float, binary32, ofInt, add, mul, div}
+use Rattle.float.specs.Numbers.{zero32}
 use Rattle.float.specs.Finite.{orZero}
 use Rattle.float.specs.Root.{rootOf}
-
-abbrev pub zero : Float
-zero = ofBits binary32 0
 
 -- 'each sample × window, rounded, squared as one rounded product'
 unfoldable pub squareOf : Float → Float → Float
@@ -21,7 +19,7 @@ squaresFrom t (x ∷ xs) (w ∷ ws) = squaresFrom (add binary32 t (squareOf x w)
 
 -- 'divided by the full frame length even at a short last frame': the window has the full frame's length
 unfoldable pub meanSquareOf : List Float → List Float → Float
-meanSquareOf window frame = div binary32 (squaresFrom zero frame window) (ofInt binary32 (pos (length window)))
+meanSquareOf window frame = div binary32 (squaresFrom zero32 frame window) (ofInt binary32 (pos (length window)))
 
 -- 'square-rooted'; 0 stands where there is no root, and `energy-low` in proofs/Bounds shows that in the domain there always is one
 unfoldable pub energyOf : List Float → List Float → Float

@@ -5,7 +5,8 @@ ghost use Prim.Native.Nat.{_≤_, min};
 ghost use lib.ListN.{length};
 ghost use lib.Seq.{sets};
 ghost use Rattle.vad_frames.specs.Emphasis.{coefficientOf, emphasizedOf, emphasized, lastOf};
-ghost use Rattle.vad_frames.specs.Energy.{zero, squaresFrom, energyOf};
+ghost use Rattle.float.specs.Numbers.{zero32};
+ghost use Rattle.vad_frames.specs.Energy.{squaresFrom, energyOf};
 ghost use Rattle.vad_frames.specs.Grid.{taken, framesOf, energiesOf, framedOf};
 ghost use Rattle.vad_frames.specs.Inside.{Operands, SamePast};
 use float::quick::both;
@@ -119,7 +120,7 @@ pub fn pre_emphasize(coeff: f32, previous: f32, samples: &[f32], values: &mut [f
 // Left to right. A square is never negative, so the zero that the sum begins from, −0 in the Rust, does not show.
 fn sum_of_squares(frame: &[f32], window: &[f32]) -> f32
     requires { ⌜ length (now frame) ≤ length (now window) ⌝ }
-    ensures { λ r. ⌜ r ≡ squaresFrom zero (now (frame .entry)) (now (window .entry)) ⌝ }
+    ensures { λ r. ⌜ r ≡ squaresFrom zero32 (now (frame .entry)) (now (window .entry)) ⌝ }
 {
     let mut total = 0.0;
     let mut i = 0;

@@ -1,173 +1,205 @@
 // A detector read from the memory that the host lends, and written there.
 ghost use mathlib.Core.Path.{_≡_};
 ghost use mathlib.Core.Bool.{true};
-ghost use mathlib.Core.List.{[], _∷_, _++_};
+ghost use mathlib.Core.List.{_++_};
 ghost use Prim.Native.Nat.{_+_, _≤_};
 ghost use lib.ListN.{length, take, drop};
 ghost use lib.Seq.{sets};
-ghost use Rattle.vad_state.specs.Kept.{keptOf, hollowOf};
-ghost use Rattle.vad_memory.specs.DetectorState.{wordAt, configAt, lengthsAt, rulesAt, segmentAt, activeAt, trackAt, detectorAt, longEnough, readable, activeNumbers, numbersOf, activeEnergy, singlesOf, numbersWritten, floatsWritten};
+ghost use Rattle.vad_layout.specs.Layout.{numbersMost, floatsMost, warmupFirst, singlesFirst};
+ghost use Rattle.ranges.specs.Sizes.{frameMost, warmupMost};
+ghost use Rattle.vad_memory.specs.DetectorState.{rateAt, wordAt, configAt, lengthsAt, rulesAt, streamAt, segmentAt, activeAt, trackAt, deskAt, keptAt, detectorAt, longEnough, readable, openWord, shownOf, numbersOf, singlesOf, numbersWritten, floatsWritten};
+use ranges::FRAME_MOST;
+use ranges::WARMUP_MOST;
 use vad_call::Tally;
 use vad_config::Lengths;
 use vad_config::VadConfig;
+use vad_layout::FLOATS;
+use vad_layout::LAYOUT;
+use vad_layout::NUMBERS;
+use vad_layout::in_floats;
+use vad_layout::in_numbers;
 use vad_segments::ActiveSegment;
 use vad_segments::ActiveSegmentState;
 use vad_segments::Rules;
 use vad_segments::Track;
+use vad_state::Desk;
 use vad_state::Kept;
+use vad_state::Stream;
 use vad_state::VadDetector;
 use vad_state::arrays::filled;
 use vad_state::arrays::put;
-use vad_state::kept_of;
 
 pub fn long_enough(numbers: &[u64], floats: &[f32]) -> bool
     ensures { λ r. ⌜ r ≡ longEnough (now (numbers .entry)) (now (floats .entry)) ⌝ }
 {
-    if numbers.len() < 29 {
+    if numbers.len() < NUMBERS {
         return false;
     }
-    4407 <= floats.len()
+    FLOATS <= floats.len()
 }
 
-// Long enough, the rate in its 32 bits, and each flag 0 or 1. The detector itself judges the rest.
-pub fn well_formed(numbers: &[u64], floats: &[f32]) -> bool
+// Long enough, of this layout, the rate in its 32 bits, and each flag 0 or 1. The detector itself judges the rest.
+pub fn is_readable(numbers: &[u64], floats: &[f32]) -> bool
     ensures { λ r. ⌜ r ≡ readable (now (numbers .entry)) (now (floats .entry)) ⌝ }
 {
     if !long_enough(numbers, floats) {
         return false;
     }
-    if 0xffff_ffff < numbers[0] {
+    if numbers[in_numbers::LAYOUT] != LAYOUT {
         return false;
     }
-    if 1 < numbers[2] {
+    if 0xffff_ffff < numbers[in_numbers::SAMPLE_RATE] {
         return false;
     }
-    if 1 < numbers[14] {
+    if 1 < numbers[in_numbers::HAS_PRE_EMPHASIS] {
         return false;
     }
-    numbers[19] <= 1
+    if 1 < numbers[in_numbers::WARMING] {
+        return false;
+    }
+    numbers[in_numbers::IS_OPEN] <= 1
 }
 
 fn config_at(numbers: &[u64], floats: &[f32]) -> VadConfig
-    requires { ⌜ 29 ≤ length (now numbers) ⌝ }
-    requires { ⌜ 4407 ≤ length (now floats) ⌝ }
-    requires { ⌜ wordAt (now numbers) 0 ≤ 0xffff_ffff ⌝ }
+    requires { ⌜ numbersMost ≤ length (now numbers) ⌝ }
+    requires { ⌜ floatsMost ≤ length (now floats) ⌝ }
+    requires { ⌜ rateAt (now numbers) ≤ 0xffff_ffff ⌝ }
     ensures { λ r. ⌜ r ≡ configAt (now (numbers .entry)) (now (floats .entry)) ⌝ }
 {
     VadConfig {
-        sample_rate: numbers[0] as u32,
-        frame_duration: numbers[1],
-        frame_overlap: floats[4396],
-        has_pre_emphasis: numbers[2] == 1,
-        pre_emphasis: floats[4397],
-        activation_ratio: floats[4398],
-        release_ratio: floats[4399],
-        min_speech_energy: floats[4400],
-        noise_smoothing: floats[4401],
-        energy_floor: floats[4402],
-        hangover_frames: numbers[3],
-        speech_padding: numbers[4],
-        min_speech_frames: numbers[5],
-        stream_start_time: numbers[6],
+        sample_rate: numbers[in_numbers::SAMPLE_RATE] as u32,
+        frame_duration: numbers[in_numbers::FRAME_DURATION],
+        frame_overlap: floats[in_floats::FRAME_OVERLAP],
+        has_pre_emphasis: numbers[in_numbers::HAS_PRE_EMPHASIS] == 1,
+        pre_emphasis: floats[in_floats::PRE_EMPHASIS],
+        activation_ratio: floats[in_floats::ACTIVATION_RATIO],
+        release_ratio: floats[in_floats::RELEASE_RATIO],
+        min_speech_energy: floats[in_floats::MIN_SPEECH_ENERGY],
+        noise_smoothing: floats[in_floats::NOISE_SMOOTHING],
+        energy_floor: floats[in_floats::ENERGY_FLOOR],
+        hangover_frames: numbers[in_numbers::HANGOVER_FRAMES],
+        speech_padding: numbers[in_numbers::SPEECH_PADDING],
+        min_speech_frames: numbers[in_numbers::MIN_SPEECH_FRAMES],
+        stream_start_time: numbers[in_numbers::STREAM_START_TIME],
     }
 }
 
 fn lengths_at(numbers: &[u64]) -> Lengths
-    requires { ⌜ 29 ≤ length (now numbers) ⌝ }
+    requires { ⌜ numbersMost ≤ length (now numbers) ⌝ }
     ensures { λ r. ⌜ r ≡ lengthsAt (now (numbers .entry)) ⌝ }
 {
     Lengths {
-        frame_length: numbers[7] as usize,
-        hop_length: numbers[8] as usize,
-        warmup_frames: numbers[9] as usize,
-        padding_samples: numbers[10] as usize,
+        frame_length: numbers[in_numbers::FRAME_LENGTH] as usize,
+        hop_length: numbers[in_numbers::HOP_LENGTH] as usize,
+        warmup_frames: numbers[in_numbers::WARMUP_FRAMES] as usize,
+        padding_samples: numbers[in_numbers::PADDING_SAMPLES] as usize,
     }
 }
 
 fn rules_at(numbers: &[u64], floats: &[f32]) -> Rules
-    requires { ⌜ 29 ≤ length (now numbers) ⌝ }
-    requires { ⌜ 4407 ≤ length (now floats) ⌝ }
-    requires { ⌜ wordAt (now numbers) 0 ≤ 0xffff_ffff ⌝ }
+    requires { ⌜ numbersMost ≤ length (now numbers) ⌝ }
+    requires { ⌜ floatsMost ≤ length (now floats) ⌝ }
+    requires { ⌜ rateAt (now numbers) ≤ 0xffff_ffff ⌝ }
     ensures { λ r. ⌜ r ≡ rulesAt (now (numbers .entry)) (now (floats .entry)) ⌝ }
 {
     Rules {
         config: config_at(numbers, floats),
         lengths: lengths_at(numbers),
-        speech_floor_rise: floats[4403],
+        speech_floor_rise: floats[in_floats::SPEECH_FLOOR_RISE],
+    }
+}
+
+fn stream_at(numbers: &[u64], floats: &[f32]) -> Stream
+    requires { ⌜ numbersMost ≤ length (now numbers) ⌝ }
+    requires { ⌜ floatsMost ≤ length (now floats) ⌝ }
+    ensures { λ r. ⌜ r ≡ streamAt (now (numbers .entry)) (now (floats .entry)) ⌝ }
+{
+    Stream {
+        carry_len: numbers[in_numbers::CARRY_LEN] as usize,
+        carry_start: numbers[in_numbers::CARRY_START],
+        processed_samples: numbers[in_numbers::PROCESSED_SAMPLES],
+        pre_emphasis_prev: floats[in_floats::PRE_EMPHASIS_PREV],
     }
 }
 
 fn segment_at(numbers: &[u64], floats: &[f32]) -> ActiveSegmentState
-    requires { ⌜ 29 ≤ length (now numbers) ⌝ }
-    requires { ⌜ 4407 ≤ length (now floats) ⌝ }
+    requires { ⌜ numbersMost ≤ length (now numbers) ⌝ }
+    requires { ⌜ floatsMost ≤ length (now floats) ⌝ }
     ensures { λ r. ⌜ r ≡ segmentAt (now (numbers .entry)) (now (floats .entry)) ⌝ }
 {
     ActiveSegmentState {
-        start_sample: numbers[20],
-        last_end_sample: numbers[21],
-        score_total: numbers[22],
-        energy_sum: floats[4406],
-        loud_frames: numbers[23],
-        silence_run: numbers[24],
+        start_sample: numbers[in_numbers::START_SAMPLE],
+        last_end_sample: numbers[in_numbers::LAST_END_SAMPLE],
+        score_total: numbers[in_numbers::SCORE_TOTAL],
+        energy_sum: floats[in_floats::ENERGY_SUM],
+        loud_frames: numbers[in_numbers::LOUD_FRAMES],
+        silence_run: numbers[in_numbers::SILENCE_RUN],
     }
 }
 
 fn active_at(numbers: &[u64], floats: &[f32]) -> ActiveSegment
-    requires { ⌜ 29 ≤ length (now numbers) ⌝ }
-    requires { ⌜ 4407 ≤ length (now floats) ⌝ }
+    requires { ⌜ numbersMost ≤ length (now numbers) ⌝ }
+    requires { ⌜ floatsMost ≤ length (now floats) ⌝ }
     ensures { λ r. ⌜ r ≡ activeAt (now (numbers .entry)) (now (floats .entry)) ⌝ }
 {
-    if numbers[19] == 1 {
+    if numbers[in_numbers::IS_OPEN] == 1 {
         return ActiveSegment::Open(segment_at(numbers, floats));
     }
     ActiveSegment::Closed
 }
 
 fn track_at(numbers: &[u64], floats: &[f32]) -> Track
-    requires { ⌜ 29 ≤ length (now numbers) ⌝ }
-    requires { ⌜ 4407 ≤ length (now floats) ⌝ }
+    requires { ⌜ numbersMost ≤ length (now numbers) ⌝ }
+    requires { ⌜ floatsMost ≤ length (now floats) ⌝ }
     ensures { λ r. ⌜ r ≡ trackAt (now (numbers .entry)) (now (floats .entry)) ⌝ }
 {
     Track {
-        noise_floor: floats[4405],
-        last_segment_end: numbers[16],
-        rows_reported: numbers[17],
-        talk_samples: numbers[18],
+        noise_floor: floats[in_floats::NOISE_FLOOR],
+        last_segment_end: numbers[in_numbers::LAST_SEGMENT_END],
+        rows_reported: numbers[in_numbers::ROWS_REPORTED],
+        talk_samples: numbers[in_numbers::TALK_SAMPLES],
         active_segment: active_at(numbers, floats),
     }
 }
 
-// A part of 2,048 floats.
-fn part_at(floats: &[f32], at: usize) -> [f32; 2048]
-    requires { ⌜ at + 2048 ≤ length (now floats) ⌝ }
-    ensures { λ r. ⌜ r ≡ take 2048 (drop at (now (floats .entry))) ⌝ }
+fn desk_at(numbers: &[u64], floats: &[f32]) -> Desk
+    requires { ⌜ numbersMost ≤ length (now numbers) ⌝ }
+    requires { ⌜ floatsMost ≤ length (now floats) ⌝ }
+    ensures { λ r. ⌜ r ≡ deskAt (now (numbers .entry)) (now (floats .entry)) ⌝ }
 {
-    filled(&floats[at..at + 2048])
+    Desk {
+        warming: numbers[in_numbers::WARMING] == 1,
+        held: numbers[in_numbers::HELD] as usize,
+        track: track_at(numbers, floats),
+    }
 }
 
-fn warmup_at(floats: &[f32]) -> [f32; 300]
-    requires { ⌜ 4407 ≤ length (now floats) ⌝ }
-    ensures { λ r. ⌜ r ≡ take 300 (drop 4096 (now (floats .entry))) ⌝ }
+// A frame's part of the floats.
+fn part_at(floats: &[f32], at: usize) -> [f32; FRAME_MOST]
+    requires { ⌜ at + frameMost ≤ length (now floats) ⌝ }
+    ensures { λ r. ⌜ r ≡ take frameMost (drop at (now (floats .entry))) ⌝ }
 {
-    let mut warmup = [0.0; 300];
-    put(&mut warmup, &floats[4096..4396]);
+    filled(&floats[at..at + FRAME_MOST])
+}
+
+fn warmup_at(floats: &[f32]) -> [f32; WARMUP_MOST]
+    requires { ⌜ floatsMost ≤ length (now floats) ⌝ }
+    ensures { λ r. ⌜ r ≡ take warmupMost (drop warmupFirst (now (floats .entry))) ⌝ }
+{
+    let mut warmup = [0.0; WARMUP_MOST];
+    put(&mut warmup, &floats[in_floats::WARMUP..in_floats::SINGLES]);
     warmup
 }
 
 // The numbers alone: the arrays stay where they stand.
 pub fn kept_at(numbers: &[u64], floats: &[f32]) -> Kept
     requires { ⌜ readable (now numbers) (now floats) ≡ true ⌝ }
-    ensures { λ r. ⌜ r ≡ keptOf (detectorAt (now (numbers .entry)) (now (floats .entry))) ⌝ }
+    ensures { λ r. ⌜ r ≡ keptAt (now (numbers .entry)) (now (floats .entry)) ⌝ }
 {
     Kept {
         rules: rules_at(numbers, floats),
-        carry_len: numbers[11] as usize,
-        carry_start: numbers[12],
-        processed_samples: numbers[13],
-        pre_emphasis_prev: floats[4404],
-        warming: numbers[14] == 1,
-        held: numbers[15] as usize,
-        track: track_at(numbers, floats),
+        stream: stream_at(numbers, floats),
+        desk: desk_at(numbers, floats),
     }
 }
 
@@ -175,21 +207,11 @@ pub fn detector_at(numbers: &[u64], floats: &[f32]) -> VadDetector
     requires { ⌜ readable (now numbers) (now floats) ≡ true ⌝ }
     ensures { λ r. ⌜ r ≡ detectorAt (now (numbers .entry)) (now (floats .entry)) ⌝ }
 {
-    let kept = kept_at(numbers, floats);
-    let rules = kept.rules;
-    let track = kept.track;
     VadDetector {
-        rules,
-        window: part_at(floats, 0),
-        carry: part_at(floats, 2048),
-        carry_len: kept.carry_len,
-        carry_start: kept.carry_start,
-        processed_samples: kept.processed_samples,
-        pre_emphasis_prev: kept.pre_emphasis_prev,
-        warming: kept.warming,
+        kept: kept_at(numbers, floats),
+        window: part_at(floats, in_floats::WINDOW),
+        carry: part_at(floats, in_floats::CARRY),
         warmup: warmup_at(floats),
-        held: kept.held,
-        track,
     }
 }
 
@@ -199,10 +221,11 @@ struct Segment {
     segment: ActiveSegmentState,
 }
 
-fn segment_of(track: Track) -> Segment
-    ensures { λ r. ⌜ r .«open» ∷ r .segment .«start_sample» ∷ r .segment .«last_end_sample» ∷ r .segment .«score_total» ∷ r .segment .«loud_frames» ∷ r .segment .«silence_run» ∷ [] ≡ activeNumbers (track .«active_segment») ⌝ }
-    ensures { λ r. ⌜ r .segment .«energy_sum» ≡ activeEnergy (track .«active_segment») ⌝ }
+fn segment_of(desk: Desk) -> Segment
+    ensures { λ r. ⌜ r .«open» ≡ openWord (desk .track .«active_segment») ⌝ }
+    ensures { λ r. ⌜ r .segment ≡ shownOf (desk .track .«active_segment») ⌝ }
 {
+    let track = desk.track;
     let active = track.active_segment;
     match active {
         ActiveSegment::Closed => Segment {
@@ -220,11 +243,16 @@ fn segment_of(track: Track) -> Segment
     }
 }
 
-fn numbers_of(kept: Kept, tally: Tally) -> [u64; 29]
-    ensures { λ r. ⌜ r ≡ numbersOf (hollowOf kept) tally ⌝ }
+fn numbers_of(kept: Kept, tally: Tally) -> [u64; NUMBERS]
+    ensures { λ r. ⌜ r ≡ numbersOf kept tally ⌝ }
 {
-    let active = segment_of(kept.track);
+    let active = segment_of(kept.desk);
     [
+        LAYOUT,
+        tally.frames as u64,
+        tally.loud as u64,
+        tally.quiet as u64,
+        tally.rows as u64,
         kept.rules.config.sample_rate as u64,
         kept.rules.config.frame_duration,
         kept.rules.config.has_pre_emphasis as u64,
@@ -236,31 +264,27 @@ fn numbers_of(kept: Kept, tally: Tally) -> [u64; 29]
         kept.rules.lengths.hop_length as u64,
         kept.rules.lengths.warmup_frames as u64,
         kept.rules.lengths.padding_samples as u64,
-        kept.carry_len as u64,
-        kept.carry_start,
-        kept.processed_samples,
-        kept.warming as u64,
-        kept.held as u64,
-        kept.track.last_segment_end,
-        kept.track.rows_reported,
-        kept.track.talk_samples,
+        kept.stream.carry_len as u64,
+        kept.stream.carry_start,
+        kept.stream.processed_samples,
+        kept.desk.warming as u64,
+        kept.desk.held as u64,
+        kept.desk.track.last_segment_end,
+        kept.desk.track.rows_reported,
+        kept.desk.track.talk_samples,
         active.open,
         active.segment.start_sample,
         active.segment.last_end_sample,
         active.segment.score_total,
         active.segment.loud_frames,
         active.segment.silence_run,
-        tally.frames as u64,
-        tally.loud as u64,
-        tally.quiet as u64,
-        tally.rows as u64,
     ]
 }
 
 fn singles_of(kept: Kept) -> [f32; 11]
-    ensures { λ r. ⌜ r ≡ singlesOf (hollowOf kept) ⌝ }
+    ensures { λ r. ⌜ r ≡ singlesOf kept ⌝ }
 {
-    let active = segment_of(kept.track);
+    let active = segment_of(kept.desk);
     [
         kept.rules.config.frame_overlap,
         kept.rules.config.pre_emphasis,
@@ -270,8 +294,8 @@ fn singles_of(kept: Kept) -> [f32; 11]
         kept.rules.config.noise_smoothing,
         kept.rules.config.energy_floor,
         kept.rules.speech_floor_rise,
-        kept.pre_emphasis_prev,
-        kept.track.noise_floor,
+        kept.stream.pre_emphasis_prev,
+        kept.desk.track.noise_floor,
         active.segment.energy_sum,
     ]
 }
@@ -296,22 +320,22 @@ fn put_floats(to: &mut [f32], at: usize, numbers: &[f32])
 
 fn put_parts<'a>(
     to: &mut [f32],
-    window: &'a [f32; 2048],
-    carry: &'a [f32; 2048],
-    warmup: &'a [f32; 300],
+    window: &'a [f32; FRAME_MOST],
+    carry: &'a [f32; FRAME_MOST],
+    warmup: &'a [f32; WARMUP_MOST],
 )
-    requires { ⌜ 4407 ≤ length (now to) ⌝ }
-    ensures { λ _. ⌜ now (to .exit) ≡ now (window .entry) ++ (now (carry .entry) ++ (now (warmup .entry) ++ drop 4396 (now (to .entry)))) ⌝ }
+    requires { ⌜ floatsMost ≤ length (now to) ⌝ }
+    ensures { λ _. ⌜ now (to .exit) ≡ now (window .entry) ++ (now (carry .entry) ++ (now (warmup .entry) ++ drop singlesFirst (now (to .entry)))) ⌝ }
 {
-    put_floats(to, 0, window);
-    put_floats(to, 2048, carry);
-    put_floats(to, 4096, warmup);
+    put_floats(to, in_floats::WINDOW, window);
+    put_floats(to, in_floats::CARRY, carry);
+    put_floats(to, in_floats::WARMUP, warmup);
 }
 
 // Apart from `put_detector`, since a state that is lent in part is copied for each call that takes it whole.
 fn put_arrays(to: &mut [f32], detector: VadDetector)
-    requires { ⌜ 4407 ≤ length (now to) ⌝ }
-    ensures { λ _. ⌜ now (to .exit) ≡ detector .window ++ (detector .carry ++ (detector .warmup ++ drop 4396 (now (to .entry)))) ⌝ }
+    requires { ⌜ floatsMost ≤ length (now to) ⌝ }
+    ensures { λ _. ⌜ now (to .exit) ≡ detector .window ++ (detector .carry ++ (detector .warmup ++ drop singlesFirst (now (to .entry)))) ⌝ }
 {
     put_parts(to, &detector.window, &detector.carry, &detector.warmup);
 }
@@ -319,18 +343,18 @@ fn put_arrays(to: &mut [f32], detector: VadDetector)
 // The same way back: what stands in the places of the arrays stays.
 pub fn put_kept(numbers: &mut [u64], floats: &mut [f32], kept: Kept, tally: Tally)
     requires { ⌜ longEnough (now numbers) (now floats) ≡ true ⌝ }
-    ensures { λ _. ⌜ now (numbers .exit) ≡ numbersWritten (hollowOf kept) tally (now (numbers .entry)) ⌝ }
-    ensures { λ _. ⌜ now (floats .exit) ≡ sets (now (floats .entry)) 4396 (singlesOf (hollowOf kept)) ⌝ }
+    ensures { λ _. ⌜ now (numbers .exit) ≡ numbersWritten kept tally (now (numbers .entry)) ⌝ }
+    ensures { λ _. ⌜ now (floats .exit) ≡ sets (now (floats .entry)) singlesFirst (singlesOf kept) ⌝ }
 {
     put_numbers(numbers, &numbers_of(kept, tally));
-    put_floats(floats, 4396, &singles_of(kept));
+    put_floats(floats, in_floats::SINGLES, &singles_of(kept));
 }
 
 pub fn put_detector(numbers: &mut [u64], floats: &mut [f32], detector: VadDetector, tally: Tally)
     requires { ⌜ longEnough (now numbers) (now floats) ≡ true ⌝ }
-    ensures { λ _. ⌜ now (numbers .exit) ≡ numbersWritten detector tally (now (numbers .entry)) ⌝ }
+    ensures { λ _. ⌜ now (numbers .exit) ≡ numbersWritten (detector .kept) tally (now (numbers .entry)) ⌝ }
     ensures { λ _. ⌜ now (floats .exit) ≡ floatsWritten detector (now (floats .entry)) ⌝ }
 {
     put_arrays(floats, detector);
-    put_kept(numbers, floats, kept_of(detector), tally);
+    put_kept(numbers, floats, detector.kept, tally);
 }

@@ -1,15 +1,22 @@
 // Replays a run of calls and prints what the detector answers. Standard input is a run of 32-bit words, little-endian: what `opening` takes, then for
 // each call its number and what it takes, and 0. What must be printed comes from the original (oracle/tests/replay.rs), so this shows equality
 // without Rust at hand.
-ghost use Prim.Native.Nat.{_≤_, _<_};
+ghost use Prim.Native.Nat.{_≤_, _<_, _*_};
+ghost use Rattle.vad_row.specs.Rows.{rowWidth};
 use libc::STDIN_FILENO;
 use libc::STDOUT_FILENO;
+use refusals::Refusal;
 use vad_call::Detected;
-use vad_call::Refusal;
 use vad_call::Tally;
 use vad_config::VadConfig;
 use vad_detector::SegmentReading;
+use vad_row::ROW_FIELDS;
 use vad_state::VadDetector;
+
+// The most rows of a call that are printed, and the numbers they take.
+const ROWS_MOST: usize = 64;
+
+const ROOM: usize = ROWS_MOST * ROW_FIELDS;
 
 fn wide(b: u8) -> u32
     ensures { λ r. ⌜ r < 256 ⌝ }
@@ -149,17 +156,17 @@ fn print_column(column: usize, n: u64) {
     }
 }
 
-fn print_rows(rows: &[u64; 448], n: usize)
-    requires { ⌜ n ≤ 448 ⌝ }
+fn print_rows(rows: &[u64; ROOM], n: usize)
+    requires { ⌜ n ≤ 64 * rowWidth ⌝ }
 {
     let mut i = 0;
     while i < n {
-        print_column(i % 7, rows[i]);
+        print_column(i % ROW_FIELDS, rows[i]);
         i += 1;
     }
 }
 
-fn print_answer(answer: Detected, rows: &[u64; 448]) {
+fn print_answer(answer: Detected, rows: &[u64; ROOM]) {
     let refusal = answer.refusal;
     if refusal.number != 0 {
         print_refusal(refusal);
@@ -169,7 +176,7 @@ fn print_answer(answer: Detected, rows: &[u64; 448]) {
     print_tally(tally);
     let detector = answer.detector;
     print_positions(detector);
-    print_rows(rows, lesser(tally.rows, 64) * 7);
+    print_rows(rows, lesser(tally.rows, ROWS_MOST) * ROW_FIELDS);
 }
 
 // Settings, rise weight, window.
@@ -186,18 +193,18 @@ fn opening() -> VadDetector {
 
 // The numbers lent for rows, and the block.
 fn detecting(detector: VadDetector) -> VadDetector {
-    let room = count(448);
+    let room = count(ROOM);
     let n = count(1040);
     let samples = numbers(n);
-    let mut rows = [0; 448];
+    let mut rows = [0; ROOM];
     let answer = vad_detector::detect(detector, &samples[0..n], &mut rows[0..room]);
     print_answer(answer, &rows);
     answer.detector
 }
 
 fn flushing(detector: VadDetector) -> VadDetector {
-    let room = count(448);
-    let mut rows = [0; 448];
+    let room = count(ROOM);
+    let mut rows = [0; ROOM];
     let answer = vad_detector::flush(detector, &mut rows[0..room]);
     print_answer(answer, &rows);
     answer.detector
@@ -229,7 +236,7 @@ fn pacing(mut detector: VadDetector) -> VadDetector {
     let times = word();
     let n = count(1040);
     let samples = numbers(n);
-    let mut rows = [0; 448];
+    let mut rows = [0; ROOM];
     detector = paced(detector, times, &samples[0..n], &mut rows);
     print(b"paced");
     print_positions(detector);

@@ -1,3 +1,1 @@
-pub mod Frames
-pub mod Segments
 pub mod Detector

@@ -5,7 +5,7 @@ use Prim.Native.Nat.{ℕ, _≤_, _<_}
 use borrow.Author.Tests.{le-leb, lt-leb}
 use lib.Ieee.{Float, binary32, le, div}
 use Rattle.vad_segments.specs.Loudness.{ratioOf, requiredOf, loudOf, inSpeechOf, weightOf, floorOf}
-use Rattle.vad_segments.specs.Closing.{timeAt, chunkOf, droppedOf, timedOf}
+use Rattle.vad_segments.specs.Closing.{timeAt, rowOf, droppedOf, timedOf}
 use Rattle.vad_segments.specs.Judging.{flooredTo, floorAfter, turnedOf, judgedOf}
 use Rattle.vad_segments.specs.declared.Judged.{Judged}
 use Rattle.vad_segments.specs.declared.Rules.{Rules}
@@ -13,8 +13,8 @@ use Rattle.vad_segments.specs.declared.FrameMetrics.{FrameMetrics}
 use Rattle.vad_segments.specs.declared.Track.{Track}
 use Rattle.vad_config.specs.declared.VadConfig.{VadConfig}
 use Rattle.vad_segments.specs.declared.ActiveSegmentState.{ActiveSegmentState}
-use Rattle.vad_segments.specs.declared.SpeechChunk.{SpeechChunk}
-use Rattle.vad_segments.specs.declared.Report.the-variants.{Row}
+use Rattle.vad_row.specs.declared.Row.{Row}
+use Rattle.vad_row.specs.declared.Report.the-variants.{OneRow}
 
 pub judged-is : (r : Rules) (limit : ℕ) (t : Track) (f : FrameMetrics) (required weight floor : Float) (loud speech : Bool)
     → required ≡ requiredOf (r .config) (t .«active_segment»)
@@ -33,6 +33,6 @@ module _ (c : VadConfig) (limit prev start end : ℕ) (s : ActiveSegmentState) (
   unfolding timedOf
   timed-dropped h = rw (← x, ← y, le-leb a b h)
 
-  pub timed-row : b < a → (k : SpeechChunk) → k ≡ chunkOf c start end s → record { end = end; report = Row k } ≡ timedOf c limit prev start end s
+  pub timed-row : b < a → (k : Row) → k ≡ rowOf c start end s → record { end = end; report = OneRow k } ≡ timedOf c limit prev start end s
   unfolding timedOf
   timed-row h k e = rw (e, ← x, ← y, lt-leb a b h)

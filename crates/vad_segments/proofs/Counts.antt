@@ -10,7 +10,7 @@ use lib.ListN.{length, getD}
 use lib.Ieee.{Float}
 use Rattle.score.proofs.Laws.{score-le}
 use Rattle.vad_segments.specs.Loudness.{ratioOf, inSpeechOf}
-use Rattle.vad_segments.specs.Closing.{settledOf, closedBy, closedOf}
+use Rattle.vad_segments.specs.Closing.{bookedOf, closedBy, closedOf}
 use Rattle.vad_segments.specs.Judging.{flooredTo, begunAt, segmentFor, extendedBy, pausedBy, isLoud, isSpeech, floorAfter, turnedOf, judgedOf, trackAfter, loudsOf, countOf, endedOf, callTrack}
 use Rattle.vad_segments.specs.declared.Rules.{Rules}
 use Rattle.vad_segments.specs.declared.FrameMetrics.{FrameMetrics}
@@ -18,9 +18,9 @@ use Rattle.vad_segments.specs.declared.ActiveSegmentState.{ActiveSegment
 use Rattle.vad_segments.specs.declared.ActiveSegment.{ActiveSegment}
 use Rattle.vad_segments.specs.declared.ActiveSegment.the-variants.{Closed, Open}
 use Rattle.vad_segments.specs.declared.Track.{Track}
-use Rattle.lists.specs.Every.{every-all}
-use Rattle.vad_segments.proofs.Rooms.{report-le}
-use Rattle.vad_segments.proofs.Ordered.{judged-adds, ended-adds, after-kept, heardIn, judged-active, ended-active}
+use Rattle.lists.proofs.Every.{every-all}
+use Rattle.vad_row.proofs.Laws.{report-le}
+use Rattle.vad_segments.proofs.Ordered.{judged-adds, ended-adds, after-kept, extendedIn, judged-active, ended-active}
 
 -- ---- an open segment's counts
 
@@ -38,10 +38,10 @@ abbrev pub countIn : ActiveSegment → ℕ
 countIn Closed = 0
 countIn (Open s) = s .«loud_frames»
 
-heard-counted : (hangover start : ℕ) (f : FrameMetrics) (ratio : Float) (a : ActiveSegment) → ActiveCounted hangover a → SegmentCounted hangover (extendedBy f ratio (segmentFor a start))
+extended-counted : (hangover start : ℕ) (f : FrameMetrics) (ratio : Float) (a : ActiveSegment) → ActiveCounted hangover a → SegmentCounted hangover (extendedBy f ratio (segmentFor a start))
 unfolding extendedBy segmentFor begunAt
-heard-counted hangover start f ratio Closed h = (omega (arith, score-le ratio), omega arith, omega arith)
-heard-counted hangover start f ratio (Open s) h = (omega (arith, score-le ratio, h .0), omega arith, omega arith)
+extended-counted hangover start f ratio Closed h = (omega (arith, score-le ratio), omega arith, omega arith)
+extended-counted hangover start f ratio (Open s) h = (omega (arith, score-le ratio, h .0), omega arith, omega arith)
 
 -- a quiet frame in speech
 paused-counted : (hangover : ℕ) (a : ActiveSegment) → inSpeechOf hangover a false ≡ true → ActiveCounted hangover a → ActiveCounted hangover (pausedBy a)
@@ -55,7 +55,7 @@ judged-counted r limit t f h =
     let hangover = r .config .«hangover_frames» in
     let a = t .«active_segment» in
     judged-active (ActiveCounted hangover) r limit t f tt
-    (λ e. heard-counted hangover (max (f .«start_sample») (t .«last_segment_end»)) f (ratioOf (f .energy) (t .«noise_floor»)) a h)
+    (λ e. extended-counted hangover (max (f .«start_sample») (t .«last_segment_end»)) f (ratioOf (f .energy) (t .«noise_floor»)) a h)
     (λ e g. paused-counted hangover a (sym (ap (inSpeechOf hangover a) e) ∙ g) h)
 
 -- frames keep them
@@ -68,10 +68,10 @@ unfolding callTrack
 call-counted finish r limit t fs h = ended-active (ActiveCounted (r .config .«hangover_frames»)) finish r limit (trackAfter r limit t fs) tt (after-counted r limit fs t h)
 
 -- ---- what a frame adds
-heard-grows : (start : ℕ) (f : FrameMetrics) (ratio : Float) (a : ActiveSegment) → countIn (Open (extendedBy f ratio (segmentFor a start))) ≤ suc (countIn a)
+extended-grows : (start : ℕ) (f : FrameMetrics) (ratio : Float) (a : ActiveSegment) → countIn (Open (extendedBy f ratio (segmentFor a start))) ≤ suc (countIn a)
 unfolding extendedBy segmentFor begunAt
-heard-grows start f ratio Closed = le-refl 1
-heard-grows start f ratio (Open s) = le-refl (suc (s .«loud_frames»))
+extended-grows start f ratio Closed = le-refl 1
+extended-grows start f ratio (Open s) = le-refl (suc (s .«loud_frames»))
 
 paused-grows : (a : ActiveSegment) → countIn (pausedBy a) ≤ suc (countIn a)
 unfolding pausedBy
@@ -82,7 +82,7 @@ paused-grows (Open s) = omega arith
 pub count-grows : (r : Rules) (limit : ℕ) (t : Track) (f : FrameMetrics) → countIn (judgedOf r limit t f .track .«active_segment») ≤ suc (countIn (t .«active_segment»))
 count-grows r limit t f =
     let a = t .«active_segment» in
-    judged-active (λ b. countIn b ≤ suc (countIn a)) r limit t f (omega arith) (λ e. heard-grows (max (f .«start_sample») (t .«last_segment_end»)) f (ratioOf (f .energy) (t .«noise_floor»)) a) (λ e g. paused-grows a)
+    judged-active (λ b. countIn b ≤ suc (countIn a)) r limit t f (omega arith) (λ e. extended-grows (max (f .«start_sample») (t .«last_segment_end»)) f (ratioOf (f .energy) (t .«noise_floor»)) a) (λ e g. paused-grows a)
 
 -- frames add as many as they are
 pub count-grows-by : (r : Rules) (limit : ℕ) (fs : List FrameMetrics) (t : Track) → countIn (trackAfter r limit t fs .«active_segment») ≤ countIn (t .«active_segment») + length fs
@@ -114,7 +114,7 @@ call-rows-grow finish r limit t fs =
 
 -- ---- loud frames
 closed-by-quiet : (r : Rules) (limit : ℕ) (t : Track) (a : ActiveSegment) → closedBy r limit t a .loud ≡ false
-unfolding closedBy settledOf
+unfolding closedBy bookedOf
 closed-by-quiet r limit t Closed = refl
 closed-by-quiet r limit t (Open s) = refl
 
@@ -157,9 +157,9 @@ abbrev pub Recent : List Bool → ActiveSegment → Type 0
 Recent flags Closed = Unit {0}
 Recent flags (Open s) = getD flags (s .«silence_run») false ≡ true
 
-heard-recent : (flags : List Bool) (start : ℕ) (f : FrameMetrics) (ratio : Float) (a : ActiveSegment) → Recent (true ∷ flags) (Open (extendedBy f ratio (segmentFor a start)))
+extended-recent : (flags : List Bool) (start : ℕ) (f : FrameMetrics) (ratio : Float) (a : ActiveSegment) → Recent (true ∷ flags) (Open (extendedBy f ratio (segmentFor a start)))
 unfolding extendedBy
-heard-recent flags start f ratio a = refl
+extended-recent flags start f ratio a = refl
 
 paused-recent : (flags : List Bool) (b : Bool) (a : ActiveSegment) → Recent flags a → Recent (b ∷ flags) (pausedBy a)
 unfolding pausedBy
@@ -173,7 +173,7 @@ recent-step r limit t f flags h =
     let start = max (f .«start_sample») (t .«last_segment_end») in
     let ratio = ratioOf (f .energy) (t .«noise_floor») in
     judged-active (Recent (b ∷ flags)) r limit t f tt
-    (λ e. subst (λ (x : Bool). Recent (x ∷ flags) (Open (heardIn t f))) (sym (loud-is r limit t f ∙ e)) (heard-recent flags start f ratio (t .«active_segment»)))
+    (λ e. subst (λ (x : Bool). Recent (x ∷ flags) (Open (extendedIn t f))) (sym (loud-is r limit t f ∙ e)) (extended-recent flags start f ratio (t .«active_segment»)))
     (λ e g. paused-recent flags b (t .«active_segment») h)
 
 -- over a call's frames: `reverseAux` puts their flags in front, the latest first

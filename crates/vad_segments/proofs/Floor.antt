@@ -22,20 +22,22 @@ use Rattle.float.specs.declared.Rounded.{Rounded}
 use Rattle.float.proofs.Align.{sum-minus-zero}
 use Rattle.float.proofs.Sticky.{side}
 use Rattle.float.proofs.Bounds.{Low, Held, Yields, sign, one, low-mag, mag-size, mag-finite, low-wider, low-value, low-of-le, le-of-mag, held-small, held-own, mul-low, blend-low, absorb-low}
-use Rattle.vad_config.specs.Domain.{zero32, one32, inUnit}
+use Rattle.float.specs.Numbers.{zero32, one32}
+use Rattle.vad_config.specs.Domain.{inUnit}
 use Rattle.vad_config.specs.declared.VadConfig.{VadConfig}
 use Rattle.vad_config.proofs.Laws.{Accepted}
 use Rattle.vad_config.proofs.Ranges.{unit-in}
 use Rattle.vad_segments.specs.Loudness.{ratioOf, weightOf, atLeast, floorOf, lesserOf, leastFrom, seedOf}
-use Rattle.vad_segments.specs.Closing.{settledOf, closedBy, closedOf}
-use Rattle.vad_segments.specs.Judging.{flooredTo, activeTo, begunAt, segmentFor, extendedBy, heardOf, pausedBy, pausedOf, isLoud, isSpeech, floorAfter, turnedOf, judgedOf, trackAfter, endedOf, callTrack}
+use Rattle.vad_segments.specs.Closing.{bookedOf, closedBy, closedOf}
+use Rattle.vad_segments.specs.Judging.{flooredTo, activeTo, begunAt, segmentFor, extendedBy, loudAdded, pausedBy, pausedOf, isLoud, isSpeech, floorAfter, turnedOf, judgedOf, trackAfter, endedOf, callTrack}
 use Rattle.vad_segments.specs.declared.Rules.{Rules}
 use Rattle.vad_segments.specs.declared.FrameMetrics.{FrameMetrics}
 use Rattle.vad_segments.specs.declared.ActiveSegment.{ActiveSegment}
 use Rattle.vad_segments.specs.declared.ActiveSegment.the-variants.{Closed, Open}
 use Rattle.vad_segments.specs.declared.Track.{Track}
 use Rattle.lists.specs.Every.{Every}
-use Rattle.vad_segments.proofs.Ordered.{either, after-kept, judged-active, ended-active}
+use Rattle.lists.proofs.Tests.{either}
+use Rattle.vad_segments.proofs.Ordered.{after-kept, judged-active, ended-active}
 
 one-is : one32 ≡ one
 unfolding ofBits
@@ -245,7 +247,7 @@ pub floor-rules : (r : Rules) → Accepted (r .config) → T (fits binary32 (r .
 floor-rules r a f s t l u = record { least = least-of (r .config) a f; smoothing = unit-weight (r .config .«noise_smoothing») s (a .smoothing); rise = rise-weight (r .«speech_floor_rise») t l u }
 
 closed-by-floor : (r : Rules) (limit : ℕ) (t : Track) (a : ActiveSegment) → closedBy r limit t a .track .«noise_floor» ≡ t .«noise_floor»
-unfolding closedBy settledOf
+unfolding closedBy bookedOf
 closed-by-floor r limit t Closed = refl
 closed-by-floor r limit t (Open s) = refl
 
@@ -261,7 +263,7 @@ ended-floor true r limit t = closed-floor r limit t
 ended-floor false r limit t = refl
 
 turned-floor : (r : Rules) (limit : ℕ) (t : Track) (f : FrameMetrics) (ratio : Float) (loud speech : Bool) → turnedOf r limit t f ratio loud speech .track .«noise_floor» ≡ t .«noise_floor»
-unfolding turnedOf heardOf pausedOf activeTo
+unfolding turnedOf loudAdded pausedOf activeTo
 turned-floor r limit t f ratio true speech = refl
 turned-floor r limit t f ratio false true = refl
 turned-floor r limit t f ratio false false = closed-floor r limit t
@@ -331,9 +333,9 @@ unfolding segmentFor begunAt
 segment-held Closed start h = zero-held
 segment-held (Open s) start h = h
 
-heard-held : (a : ActiveSegment) (start : ℕ) (f : FrameMetrics) (ratio : Float) → Low (f .energy) (2 ^ 17) 1 → ActiveHeld a → ActiveHeld (Open (extendedBy f ratio (segmentFor a start)))
+extended-held : (a : ActiveSegment) (start : ℕ) (f : FrameMetrics) (ratio : Float) → Low (f .energy) (2 ^ 17) 1 → ActiveHeld a → ActiveHeld (Open (extendedBy f ratio (segmentFor a start)))
 unfolding extendedBy
-heard-held a start f ratio e h =
+extended-held a start f ratio e h =
     let x = segmentFor a start .«energy_sum» in
     (add-fits binary32 x (f .energy), absorb-low x (f .energy) (segment-held a start h .1) e)
 
@@ -346,7 +348,7 @@ paused-held (Open s) h = h
 pub energy-kept : (r : Rules) (limit : ℕ) (t : Track) (f : FrameMetrics) → EnergyIn (f .energy) → ActiveHeld (t .«active_segment») → ActiveHeld (judgedOf r limit t f .track .«active_segment»)
 energy-kept r limit t f e h =
     judged-active ActiveHeld r limit t f tt
-    (λ z. heard-held (t .«active_segment») (max (f .«start_sample») (t .«last_segment_end»)) f (ratioOf (f .energy) (t .«noise_floor»)) (e .1) h)
+    (λ z. extended-held (t .«active_segment») (max (f .«start_sample») (t .«last_segment_end»)) f (ratioOf (f .energy) (t .«noise_floor»)) (e .1) h)
     (λ y z. paused-held (t .«active_segment») h)
 
 -- frames keep it

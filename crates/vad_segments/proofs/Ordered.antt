@@ -8,22 +8,26 @@ use native.Mathlib.Omega.{arith}
 use borrow.Author.Tests.{leb-false, lt-leb}
 use lib.Dec.{leb, ltb}
 use lib.ListN.{length, length-append}
-use Rattle.lists.specs.Every.{Every, every-append, every-map, every-both}
+use Rattle.lists.specs.Every.{Every}
+use Rattle.lists.proofs.Every.{every-append, every-map, every-both}
+use Rattle.lists.proofs.Tests.{either}
 use Rattle.vad_config.specs.Lengths.{timeOf}
 use Rattle.vad_config.specs.declared.VadConfig.{VadConfig}
 use Rattle.vad_config.specs.declared.Lengths.{Lengths}
 use Rattle.vad_config.proofs.Laws.{Accepted, time-is}
-use Rattle.vad_segments.specs.Closing.{timeAt, chunkOf, reported, talkOf, paddedStart, paddedEnd, droppedOf, tooShort, timedOf, finalizedOf, settledOf, closedBy, closedOf}
-use Rattle.vad_segments.specs.Judging.{flooredTo, activeTo, begunAt, segmentFor, extendedBy, heardOf, pausedBy, pausedOf, isLoud, isSpeech, floorAfter, turnedOf, judgedOf, frameAt, framesAt, trackAfter, rowsOf, endedOf, callRows, callTrack}
+use Rattle.vad_row.specs.Rows.{reported, talkOf}
+use Rattle.vad_row.specs.declared.Row.{Row}
+use Rattle.vad_row.specs.declared.Report.the-variants.{NoRow, OneRow}
+use Rattle.vad_row.proofs.Laws.{Between, RowsFrom, talk-none, talk-append, between-le, between-append, between-talk, in-order-rows, in-order-starts}
+use Rattle.vad_segments.specs.Closing.{timeAt, rowOf, paddedStart, paddedEnd, droppedOf, tooShort, timedOf, finalizedOf, bookedOf, closedBy, closedOf}
+use Rattle.vad_segments.specs.Judging.{flooredTo, activeTo, begunAt, segmentFor, extendedBy, loudAdded, pausedBy, pausedOf, isLoud, isSpeech, floorAfter, turnedOf, judgedOf, frameAt, framesAt, trackAfter, rowsOf, endedOf, callRows, callTrack}
 use Rattle.vad_segments.specs.Loudness.{ratioOf}
-use Rattle.vad_segments.specs.Rooms.{FrameWithin}
+use Rattle.vad_segments.proofs.Rooms.{FrameWithin}
 use Rattle.vad_segments.specs.declared.Rules.{Rules}
 use Rattle.vad_segments.specs.declared.FrameMetrics.{FrameMetrics}
 use Rattle.vad_segments.specs.declared.ActiveSegmentState.{ActiveSegmentState}
 use Rattle.vad_segments.specs.declared.ActiveSegment.{ActiveSegment}
 use Rattle.vad_segments.specs.declared.ActiveSegment.the-variants.{Closed, Open}
-use Rattle.vad_segments.specs.declared.SpeechChunk.{SpeechChunk}
-use Rattle.vad_segments.specs.declared.Report.the-variants.{NoRow, Row}
 use Rattle.vad_segments.specs.declared.Finalized.{Finalized}
 use Rattle.vad_segments.specs.declared.Track.{Track}
 use Rattle.vad_segments.specs.declared.Judged.{Judged}
@@ -50,64 +54,6 @@ times-apart c n m a h g =
     rw (time-is start rate m (a .rate) (a .start-high) g, time-is start rate n (a .rate) (a .start-high) (omega arith))
     (lt-leb (timeOf start rate m) (timeOf start rate n) (time-strict start rate n m (omega (arith, a .rate-low)) (omega (arith, a .rate-high)) h))
 
--- what holds of both choices
-pub either : {A : Type 0} (P : A → Type 0) (t : Bool) (x y : A) → P x → P y → P (cond t x y)
-either P true x y h g = h
-either P false x y h g = g
-
--- ---- rows in order: from ≤ start₁ < end₁ ≤ start₂ < .. ≤ to
-abbrev pub InOrder : ℕ → List SpeechChunk → ℕ → Type 0
-InOrder from [] to = from ≤ to
-InOrder from (r ∷ rs) to = (from ≤ r .«start_sample») × (r .«start_sample» < r .«end_sample») × InOrder (r .«end_sample») rs to
-
--- the end is not before the beginning
-pub in-order-le : (from : ℕ) (rs : List SpeechChunk) (to : ℕ) → InOrder from rs to → from ≤ to
-in-order-le from [] to h = h
-in-order-le from (r ∷ rs) to h = omega (arith, h .0, h .1, in-order-le (r .«end_sample») rs to (h .2))
-
--- an earlier beginning, a later end
-pub in-order-wider : (a b c d : ℕ) (rs : List SpeechChunk) → a ≤ b → c ≤ d → InOrder b rs c → InOrder a rs d
-in-order-wider a b c d [] l u h = le-trans l (le-trans h u)
-in-order-wider a b c d (r ∷ rs) l u h = (le-trans l (h .0), h .1, in-order-wider (r .«end_sample») (r .«end_sample») c d rs (le-refl (r .«end_sample»)) u (h .2))
-
--- rows in order, and rows in order after them
-pub in-order-append : (a b c : ℕ) (rs ss : List SpeechChunk) → InOrder a rs b → InOrder b ss c → InOrder a (rs ++ ss) c
-in-order-append a b c [] ss h g = in-order-wider a b c c ss h (le-refl c) g
-in-order-append a b c (r ∷ rs) ss h g = (h .0, h .1, in-order-append (r .«end_sample») b c rs ss (h .2) g)
-
--- they don't overlap, so their lengths together are at most the way from the beginning to the end
-pub in-order-talk : (from : ℕ) (rs : List SpeechChunk) (to : ℕ) → InOrder from rs to → from + talkOf rs ≤ to
-unfolding talkOf
-in-order-talk from [] to h = omega (arith, h)
-in-order-talk from (r ∷ rs) to h = omega (arith, h .0, h .1, in-order-talk (r .«end_sample») rs to (h .2))
-
--- and each is a sample long at least
-pub in-order-rows : (from : ℕ) (rs : List SpeechChunk) (to : ℕ) → InOrder from rs to → length rs ≤ talkOf rs
-unfolding talkOf
-in-order-rows from [] to h = omega arith
-in-order-rows from (r ∷ rs) to h = omega (arith, h .1, in-order-rows (r .«end_sample») rs to (h .2))
-
--- each starts at the beginning or later
-pub in-order-starts : (from : ℕ) (rs : List SpeechChunk) (to : ℕ) → InOrder from rs to → Every (λ r. from ≤ r .«start_sample») rs
-in-order-starts from [] to h = tt
-in-order-starts from (r ∷ rs) to h =
-    (h .0, in-order-starts from rs to (in-order-wider from (r .«end_sample») to to rs (omega (arith, h .0, h .1)) (le-refl to) (h .2)))
-
--- and ends at the end or sooner
-pub in-order-ends : (from : ℕ) (rs : List SpeechChunk) (to : ℕ) → InOrder from rs to → Every (λ r. r .«end_sample» ≤ to) rs
-in-order-ends from [] to h = tt
-in-order-ends from (r ∷ rs) to h = (in-order-le (r .«end_sample») rs to (h .2), in-order-ends (r .«end_sample») rs to (h .2))
-
-no-talk : talkOf [] ≡ 0
-unfolding talkOf
-no-talk = refl
-
--- talk over two lists of rows
-pub talk-append : (rs ss : List SpeechChunk) → talkOf (rs ++ ss) ≡ talkOf rs + talkOf ss
-unfolding talkOf
-talk-append [] ss = omega arith
-talk-append (r ∷ rs) ss = omega (arith, talk-append rs ss)
-
 -- ---- closing a segment
 
 -- a segment that starts at or after prev, and whose start and last loud end are at most the limit
@@ -124,10 +70,10 @@ unfoldable pub plainlyOf : Rules → ℕ → ℕ → ActiveSegmentState → Fina
 plainlyOf r limit prev s =
     let padding = r .lengths .«padding_samples» in
     let end = min (s .«last_end_sample» + padding) limit in
-    cond (tooShort (r .config) s) (droppedOf limit prev s) (record { end = end; report = Row (chunkOf (r .config) (paddedStart padding prev s) end s) })
+    cond (tooShort (r .config) s) (droppedOf limit prev s) (record { end = end; report = OneRow (rowOf (r .config) (paddedStart padding prev s) end s) })
 
 timed-is : (c : VadConfig) (limit prev start end : ℕ) (s : ActiveSegmentState) → Accepted c → start < end → end ≤ 2 ^ 40
-    → timedOf c limit prev start end s ≡ record { end = end; report = Row (chunkOf c start end s) }
+    → timedOf c limit prev start end s ≡ record { end = end; report = OneRow (rowOf c start end s) }
 unfolding timedOf
 timed-is c limit prev start end s a h g = rw (times-apart c start end a h g)
 
@@ -141,9 +87,9 @@ lasts c s = go (leb (s .«last_end_sample») (s .«start_sample»)) (ltb (s .«l
     go false y f h = f refl
 
 -- a segment closed between the end before, prev, and the limit: the new end is at most the limit, and the row, if there is one, lies between the two ends
-pub record Between (prev limit : ℕ) (f : Finalized) : Type 0 where
+pub record ClosedBetween (prev limit : ℕ) (f : Finalized) : Type 0 where
   pub high : f .end ≤ limit
-  pub rows : InOrder prev (reported (f .report)) (f .end)
+  pub rows : Between prev (reported (f .report)) (f .end)
 
 module _ (r : Rules) (limit : ℕ) (a : Accepted (r .config)) (g : limit ≤ 2 ^ 40) where
   -- the two never take effect: a segment that is not dropped ends past its start and at or before the limit
@@ -166,34 +112,34 @@ module _ (r : Rules) (limit : ℕ) (a : Accepted (r .config)) (g : limit ≤ 2 ^
       start-lt h = unfold paddedStart in omega (arith, o .0, o .1, o .2)
 
       go : (t : Bool) → (t ≡ false → s .«start_sample» < s .«last_end_sample»)
-          → cond t (droppedOf limit prev s) (timedOf (r .config) limit prev start (paddedEnd padding limit s) s) ≡ cond t (droppedOf limit prev s) (record { end = end; report = Row (chunkOf (r .config) start end s) })
+          → cond t (droppedOf limit prev s) (timedOf (r .config) limit prev start (paddedEnd padding limit s) s) ≡ cond t (droppedOf limit prev s) (record { end = end; report = OneRow (rowOf (r .config) start end s) })
       go true f = refl
       go false f = ap (λ (e : ℕ). timedOf (r .config) limit prev start e s) (end-is (f refl)) ∙ timed-is (r .config) limit prev start end s a (start-lt (f refl)) (omega arith)
 
   -- a segment in the sound received closes in it: 'the end is clipped to samples received by this call'
-  pub closing-between : (prev : ℕ) (s : ActiveSegmentState) → SegmentOrdered prev limit s → Between prev limit (finalizedOf r limit prev s)
-  closing-between prev s o = subst (Between prev limit) (sym (one-more-idle prev s o)) (unfold plainlyOf in go (tooShort (r .config) s) (lasts (r .config) s))
+  pub closing-between : (prev : ℕ) (s : ActiveSegmentState) → SegmentOrdered prev limit s → ClosedBetween prev limit (finalizedOf r limit prev s)
+  closing-between prev s o = subst (ClosedBetween prev limit) (sym (one-more-idle prev s o)) (unfold plainlyOf in go (tooShort (r .config) s) (lasts (r .config) s))
     where
       go : (t : Bool) → (t ≡ false → s .«start_sample» < s .«last_end_sample»)
-          → Between prev limit (cond t (droppedOf limit prev s) (record {
+          → ClosedBetween prev limit (cond t (droppedOf limit prev s) (record {
             end = min (s .«last_end_sample» + r .lengths .«padding_samples») limit;
-            report = Row (chunkOf (r .config) (paddedStart (r .lengths .«padding_samples») prev s) (min (s .«last_end_sample» + r .lengths .«padding_samples») limit) s);
+            report = OneRow (rowOf (r .config) (paddedStart (r .lengths .«padding_samples») prev s) (min (s .«last_end_sample» + r .lengths .«padding_samples») limit) s);
           }))
-      go true f = unfold droppedOf in record { high = omega (arith, o .0, o .1); rows = unfold reported in omega arith }
-      go false f = record { high = omega arith; rows = unfold reported chunkOf paddedStart in (omega arith, omega (arith, f refl, o .0, o .1, o .2), omega arith) }
+      go true f = unfold droppedOf in record { high = omega (arith, o .0, o .1); rows = unfold reported in (tt, omega arith) }
+      go false f = record { high = omega arith; rows = unfold reported rowOf paddedStart in ((omega arith, omega (arith, f refl, o .0, o .1, o .2), tt), omega arith) }
 
 -- the row of a closed segment, if it has one: it starts at the padded start, not before prev, and ends at the new end
 abbrev pub RowFrom : ℕ → Finalized → Type 0
 RowFrom start f = Every (λ c. (c .«start_sample» ≡ start) × (c .«end_sample» ≡ f .end)) (reported (f .report))
 
 pub row-start : (r : Rules) (limit prev : ℕ) (s : ActiveSegmentState) → RowFrom (max (s .«start_sample» - r .lengths .«padding_samples») prev) (finalizedOf r limit prev s)
-unfolding finalizedOf timedOf droppedOf reported chunkOf paddedStart
+unfolding finalizedOf timedOf droppedOf reported rowOf paddedStart
 row-start r limit prev s =
     let padding = r .lengths .«padding_samples» in
     let start = max (s .«start_sample» - padding) prev in
     let end = paddedEnd padding limit s in
     either (RowFrom start) (tooShort (r .config) s) (droppedOf limit prev s) (timedOf (r .config) limit prev start end s) tt
-    (either (RowFrom start) (leb (timeAt (r .config) end) (timeAt (r .config) start)) (droppedOf limit prev s) (record { end = end; report = Row (chunkOf (r .config) start end s) }) tt ((refl, refl), tt))
+    (either (RowFrom start) (leb (timeAt (r .config) end) (timeAt (r .config) start)) (droppedOf limit prev s) (record { end = end; report = OneRow (rowOf (r .config) start end s) }) tt ((refl, refl), tt))
 
 -- ---- the track
 
@@ -219,13 +165,13 @@ pub record Adds (t : Track) (j : Judged) : Type 0 where
 -- a step from an ordered track: the track stays ordered, and its row, if there is one, lies between the two last segment ends
 pub record Stepped (limit : ℕ) (t : Track) (j : Judged) : Type 0 where
   pub ordered : TrackOrdered limit (j .track)
-  pub rows : InOrder (t .«last_segment_end») (reported (j .report)) (j .track .«last_segment_end»)
+  pub rows : Between (t .«last_segment_end») (reported (j .report)) (j .track .«last_segment_end»)
 
 no-row : (t u : Track) (loud : Bool) → u .«rows_reported» ≡ t .«rows_reported» → u .«talk_samples» ≡ t .«talk_samples» → Adds t (record { track = u; report = NoRow; loud = loud })
 no-row t u loud h g = record { rows-added = unfold reported in omega (arith, h); talk-added = unfold reported talkOf in omega (arith, g) }
 
 closed-by-adds : (r : Rules) (limit : ℕ) (t : Track) (a : ActiveSegment) → Adds t (closedBy r limit t a)
-unfolding closedBy settledOf
+unfolding closedBy bookedOf
 closed-by-adds r limit t Closed = no-row t t false refl refl
 closed-by-adds r limit t (Open s) = record { rows-added = refl; talk-added = refl }
 
@@ -235,8 +181,8 @@ unfolding closedOf
 closed-adds r limit t = closed-by-adds r limit t (t .«active_segment»)
 
 turned-adds : (r : Rules) (limit : ℕ) (t : Track) (f : FrameMetrics) (ratio : Float) (loud speech : Bool) → Adds t (turnedOf r limit t f ratio loud speech)
-unfolding turnedOf heardOf pausedOf activeTo
-turned-adds r limit t f ratio true speech = no-row t (heardOf t f ratio) true refl refl
+unfolding turnedOf loudAdded pausedOf activeTo
+turned-adds r limit t f ratio true speech = no-row t (loudAdded t f ratio) true refl refl
 turned-adds r limit t f ratio false true = no-row t (pausedOf t) false refl refl
 turned-adds r limit t f ratio false false = closed-adds r limit t
 
@@ -254,7 +200,7 @@ ended-adds true r limit t = closed-adds r limit t
 ended-adds false r limit t = no-row t t false refl refl
 
 -- what each step adds to a count, a call adds
-module _ (r : Rules) (limit : ℕ) (count : Track → ℕ) (size : List SpeechChunk → ℕ) (none : size [] ≡ 0) (more : (rs ss : List SpeechChunk) → size (rs ++ ss) ≡ size rs + size ss)
+module _ (r : Rules) (limit : ℕ) (count : Track → ℕ) (size : List Row → ℕ) (none : size [] ≡ 0) (more : (rs ss : List Row) → size (rs ++ ss) ≡ size rs + size ss)
     (step : (t : Track) (f : FrameMetrics) → count (judgedOf r limit t f .track) ≡ count t + size (reported (judgedOf r limit t f .report)))
     (last : (finish : Bool) (t : Track) → count (endedOf finish r limit t .track) ≡ count t + size (reported (endedOf finish r limit t .report))) where
   after-sums : (fs : List FrameMetrics) (t : Track) → count (trackAfter r limit t fs) ≡ count t + size (rowsOf r limit t fs)
@@ -280,10 +226,10 @@ module _ (r : Rules) (limit : ℕ) (t : Track) (fs : List FrameMetrics) where
 
   -- 'and talk samples: the sum of end − start over all rows'
   pub talk-counted : trackAfter r limit t fs .«talk_samples» ≡ t .«talk_samples» + talkOf (rowsOf r limit t fs)
-  talk-counted = after-sums r limit (λ u. u .«talk_samples») talkOf no-talk talk-append (λ u f. judged-adds r limit u f .talk-added) (λ b u. ended-adds b r limit u .talk-added) fs t
+  talk-counted = after-sums r limit (λ u. u .«talk_samples») talkOf talk-none talk-append (λ u f. judged-adds r limit u f .talk-added) (λ b u. ended-adds b r limit u .talk-added) fs t
 
   pub call-talk-counted : (finish : Bool) → callTrack finish r limit t fs .«talk_samples» ≡ t .«talk_samples» + talkOf (callRows finish r limit t fs)
-  call-talk-counted finish = call-sums r limit (λ u. u .«talk_samples») talkOf no-talk talk-append (λ u f. judged-adds r limit u f .talk-added) (λ b u. ended-adds b r limit u .talk-added) finish fs t
+  call-talk-counted finish = call-sums r limit (λ u. u .«talk_samples») talkOf talk-none talk-append (λ u f. judged-adds r limit u f .talk-added) (λ b u. ended-adds b r limit u .talk-added) finish fs t
 
 -- ---- what each frame keeps, all frames keep
 module _ (r : Rules) (limit : ℕ) (P : Track → Type 0) (Q : FrameMetrics → Type 0) (step : (t : Track) (f : FrameMetrics) → Q f → P t → P (judgedOf r limit t f .track)) where
@@ -297,18 +243,18 @@ module _ (r : Rules) (limit : ℕ) (P : Track → Type 0) (Q : FrameMetrics → 
 -- a track with the same ends and counts, and another segment
 same-ends : (limit : ℕ) (t : Track) (a : ActiveSegment) (loud : Bool) → TrackOrdered limit t → ActiveOrdered (t .«last_segment_end») limit a → Stepped limit t (record { track = activeTo a t; report = NoRow; loud = loud })
 unfolding activeTo reported
-same-ends limit t a loud o h = record { ordered = record { ended = o .ended; talk = o .talk; active = h }; rows = le-refl (t .«last_segment_end») }
+same-ends limit t a loud o h = record { ordered = record { ended = o .ended; talk = o .talk; active = h }; rows = (tt, le-refl (t .«last_segment_end»)) }
 
 idle : (limit : ℕ) (t : Track) (loud : Bool) → TrackOrdered limit t → Stepped limit t (record { track = t; report = NoRow; loud = loud })
 unfolding reported
-idle limit t loud o = record { ordered = o; rows = le-refl (t .«last_segment_end») }
+idle limit t loud o = record { ordered = o; rows = (tt, le-refl (t .«last_segment_end»)) }
 
 -- a loud frame: 'a new start is never before the last segment end'
-heard-ordered : (prev limit : ℕ) (f : FrameMetrics) (ratio : Float) (a : ActiveSegment) → prev ≤ limit → FrameWithin limit f → ActiveOrdered prev limit a
+extended-ordered : (prev limit : ℕ) (f : FrameMetrics) (ratio : Float) (a : ActiveSegment) → prev ≤ limit → FrameWithin limit f → ActiveOrdered prev limit a
     → ActiveOrdered prev limit (Open (extendedBy f ratio (segmentFor a (max (f .«start_sample») prev))))
 unfolding extendedBy segmentFor begunAt
-heard-ordered prev limit f ratio Closed p w h = (omega arith, omega (arith, w .0), w .1)
-heard-ordered prev limit f ratio (Open s) p w h = (h .0, h .1, w .1)
+extended-ordered prev limit f ratio Closed p w h = (omega arith, omega (arith, w .0), w .1)
+extended-ordered prev limit f ratio (Open s) p w h = (h .0, h .1, w .1)
 
 paused-ordered : (prev limit : ℕ) (a : ActiveSegment) → ActiveOrdered prev limit a → ActiveOrdered prev limit (pausedBy a)
 unfolding pausedBy
@@ -317,17 +263,17 @@ paused-ordered prev limit (Open s) h = h
 
 -- the last segment end never falls
 pub end-mono : (limit : ℕ) (t : Track) (j : Judged) → Stepped limit t j → t .«last_segment_end» ≤ j .track .«last_segment_end»
-end-mono limit t j s = in-order-le (t .«last_segment_end») (reported (j .report)) (j .track .«last_segment_end») (s .rows)
+end-mono limit t j s = between-le (t .«last_segment_end») (reported (j .report)) (j .track .«last_segment_end») (s .rows)
 
 module _ (r : Rules) (limit : ℕ) (a : Accepted (r .config)) (g : limit ≤ 2 ^ 40) where
   closed-by-stepped : (t : Track) (b : ActiveSegment) → TrackOrdered limit t → ActiveOrdered (t .«last_segment_end») limit b → Stepped limit t (closedBy r limit t b)
-  unfolding closedBy settledOf
+  unfolding closedBy bookedOf
   closed-by-stepped t Closed o h = idle limit t false o
   closed-by-stepped t (Open s) o h =
       let b = closing-between r limit a g (t .«last_segment_end») s h in
       let f = finalizedOf r limit (t .«last_segment_end») s in
       record {
-        ordered = record { ended = b .high; talk = omega (arith, o .talk, in-order-talk (t .«last_segment_end») (reported (f .report)) (f .end) (b .rows)); active = tt };
+        ordered = record { ended = b .high; talk = omega (arith, o .talk, between-talk (t .«last_segment_end») (reported (f .report)) (f .end) (b .rows)); active = tt };
         rows = b .rows;
       }
 
@@ -343,8 +289,8 @@ module _ (r : Rules) (limit : ℕ) (a : Accepted (r .config)) (g : limit ≤ 2 ^
   ended-stepped false t o = idle limit t false o
 
   turned-stepped : (t : Track) (f : FrameMetrics) (ratio : Float) (loud speech : Bool) → TrackOrdered limit t → FrameWithin limit f → Stepped limit t (turnedOf r limit t f ratio loud speech)
-  unfolding turnedOf heardOf pausedOf
-  turned-stepped t f ratio true speech o w = same-ends limit t _ true o (heard-ordered (t .«last_segment_end») limit f ratio (t .«active_segment») (o .ended) w (o .active))
+  unfolding turnedOf loudAdded pausedOf
+  turned-stepped t f ratio true speech o w = same-ends limit t _ true o (extended-ordered (t .«last_segment_end») limit f ratio (t .«active_segment») (o .ended) w (o .active))
   turned-stepped t f ratio false true o w = same-ends limit t _ false o (paused-ordered (t .«last_segment_end») limit (t .«active_segment») (o .active))
   turned-stepped t f ratio false false o w = closed-stepped t o
 
@@ -368,12 +314,12 @@ module _ (r : Rules) (limit : ℕ) (a : Accepted (r .config)) (g : limit ≤ 2 ^
   after-ordered fs t o h = after-kept r limit (TrackOrdered limit) (FrameWithin limit) (λ u f w p. judged-ordered u f p w) fs t h o
 
   -- the rows of frames lie in order between the last segment ends before and after them
-  pub rows-in-order : (fs : List FrameMetrics) (t : Track) → TrackOrdered limit t → Every (FrameWithin limit) fs → InOrder (t .«last_segment_end») (rowsOf r limit t fs) (trackAfter r limit t fs .«last_segment_end»)
+  pub rows-in-order : (fs : List FrameMetrics) (t : Track) → TrackOrdered limit t → Every (FrameWithin limit) fs → Between (t .«last_segment_end») (rowsOf r limit t fs) (trackAfter r limit t fs .«last_segment_end»)
   unfolding rowsOf trackAfter
-  rows-in-order [] t o h = le-refl (t .«last_segment_end»)
+  rows-in-order [] t o h = (tt, le-refl (t .«last_segment_end»))
   rows-in-order (f ∷ fs) t o h =
       let s = judged-stepped t f o (h .0) in
-      in-order-append _ _ _ (reported (judgedOf r limit t f .report)) (rowsOf r limit (judgedOf r limit t f .track) fs) (s .rows) (rows-in-order fs (judgedOf r limit t f .track) (s .ordered) (h .1))
+      between-append _ _ _ (reported (judgedOf r limit t f .report)) (rowsOf r limit (judgedOf r limit t f .track) fs) (s .rows) (rows-in-order fs (judgedOf r limit t f .track) (s .ordered) (h .1))
 
   -- a call keeps it
   pub call-ordered : (finish : Bool) (t : Track) (fs : List FrameMetrics) → TrackOrdered limit t → Every (FrameWithin limit) fs → TrackOrdered limit (callTrack finish r limit t fs)
@@ -382,10 +328,10 @@ module _ (r : Rules) (limit : ℕ) (a : Accepted (r .config)) (g : limit ≤ 2 ^
 
   -- and so do the rows of a call
   pub call-in-order : (finish : Bool) (t : Track) (fs : List FrameMetrics) → TrackOrdered limit t → Every (FrameWithin limit) fs
-      → InOrder (t .«last_segment_end») (callRows finish r limit t fs) (callTrack finish r limit t fs .«last_segment_end»)
+      → Between (t .«last_segment_end») (callRows finish r limit t fs) (callTrack finish r limit t fs .«last_segment_end»)
   unfolding callRows callTrack
   call-in-order finish t fs o h =
-      in-order-append _ _ _ (rowsOf r limit t fs) (reported (endedOf finish r limit (trackAfter r limit t fs) .report)) (rows-in-order fs t o h) (ended-stepped finish (trackAfter r limit t fs) (after-ordered fs t o h) .rows)
+      between-append _ _ _ (rowsOf r limit t fs) (reported (endedOf finish r limit (trackAfter r limit t fs) .report)) (rows-in-order fs t o h) (ended-stepped finish (trackAfter r limit t fs) (after-ordered fs t o h) .rows)
 
   -- a row is a sample long at least: rows stay at most talk
   pub call-rows-talk : (finish : Bool) (t : Track) (fs : List FrameMetrics) → TrackOrdered limit t → Every (FrameWithin limit) fs → t .«rows_reported» ≤ t .«talk_samples»
@@ -393,14 +339,14 @@ module _ (r : Rules) (limit : ℕ) (a : Accepted (r .config)) (g : limit ≤ 2 ^
   call-rows-talk finish t fs o h l =
       let m = call-rows-counted r limit t fs finish in
       let n = call-talk-counted r limit t fs finish in
-      let i = in-order-rows _ (callRows finish r limit t fs) _ (call-in-order finish t fs o h) in
+      let i = in-order-rows _ (callRows finish r limit t fs) (call-in-order finish t fs o h .0) in
       omega arith
 
 -- ---- the open segment after a frame
 
 -- after closing nothing is open
 closed-by-closed : (r : Rules) (limit : ℕ) (t : Track) (a : ActiveSegment) → a ≡ t .«active_segment» → closedBy r limit t a .track .«active_segment» ≡ Closed
-unfolding closedBy settledOf
+unfolding closedBy bookedOf
 closed-by-closed r limit t Closed e = sym e
 closed-by-closed r limit t (Open s) e = refl
 
@@ -409,21 +355,21 @@ unfolding closedOf
 closed-closed r limit t = closed-by-closed r limit t (t .«active_segment») refl
 
 -- the segment that a loud frame leaves open
-abbrev pub heardIn : Track → FrameMetrics → ActiveSegmentState
-heardIn t f = extendedBy f (ratioOf (f .energy) (t .«noise_floor»)) (segmentFor (t .«active_segment») (max (f .«start_sample») (t .«last_segment_end»)))
+abbrev pub extendedIn : Track → FrameMetrics → ActiveSegmentState
+extendedIn t f = extendedBy f (ratioOf (f .energy) (t .«noise_floor»)) (segmentFor (t .«active_segment») (max (f .«start_sample») (t .«last_segment_end»)))
 
 turned-active : (P : ActiveSegment → Type 0) (r : Rules) (limit : ℕ) (t : Track) (f : FrameMetrics) (ratio : Float) (loud speech : Bool) → P Closed
     → (loud ≡ true → P (Open (extendedBy f ratio (segmentFor (t .«active_segment») (max (f .«start_sample») (t .«last_segment_end»))))))
     → (loud ≡ false → speech ≡ true → P (pausedBy (t .«active_segment»)))
     → P (turnedOf r limit t f ratio loud speech .track .«active_segment»)
-unfolding turnedOf heardOf pausedOf activeTo
+unfolding turnedOf loudAdded pausedOf activeTo
 turned-active P r limit t f ratio true speech c h p = h refl
 turned-active P r limit t f ratio false true c h p = p refl refl
 turned-active P r limit t f ratio false false c h p = subst P (sym (closed-closed r limit t)) c
 
 -- what holds of no segment, of one extended by a loud frame, and of one that pauses, holds after a frame
 pub judged-active : (P : ActiveSegment → Type 0) (r : Rules) (limit : ℕ) (t : Track) (f : FrameMetrics) → P Closed
-    → (isLoud r t f ≡ true → P (Open (heardIn t f)))
+    → (isLoud r t f ≡ true → P (Open (extendedIn t f)))
     → (isLoud r t f ≡ false → isSpeech r t f ≡ true → P (pausedBy (t .«active_segment»)))
     → P (judgedOf r limit t f .track .«active_segment»)
 unfolding judgedOf flooredTo
@@ -442,17 +388,13 @@ abbrev pub StartsFrom : ℕ → ActiveSegment → Type 0
 StartsFrom next Closed = Unit {0}
 StartsFrom next (Open s) = next ≤ s .«start_sample»
 
--- every row starts at n or later
-abbrev pub RowsFrom : ℕ → List SpeechChunk → Type 0
-RowsFrom n rs = Every (λ c. n ≤ c .«start_sample») rs
-
 -- a step after which the open segment starts at next or later, and whose row, if there is one, starts no more than the padding before next
 pub record After (next padding : ℕ) (j : Judged) : Type 0 where
   pub segment : StartsFrom next (j .track .«active_segment»)
   pub rows : RowsFrom (next - padding) (reported (j .report))
 
 closed-by-after : (r : Rules) (limit next : ℕ) (t : Track) (a : ActiveSegment) → StartsFrom next a → StartsFrom next (t .«active_segment») → After next (r .lengths .«padding_samples») (closedBy r limit t a)
-unfolding closedBy settledOf
+unfolding closedBy bookedOf
 closed-by-after r limit next t Closed h g = record { segment = g; rows = unfold reported in tt }
 closed-by-after r limit next t (Open s) h g = record {
   segment = tt;
@@ -464,10 +406,10 @@ pub closed-after : (r : Rules) (limit next : ℕ) (t : Track) → StartsFrom nex
 unfolding closedOf
 closed-after r limit next t h = closed-by-after r limit next t (t .«active_segment») h h
 
-heard-after : (next prev : ℕ) (f : FrameMetrics) (ratio : Float) (a : ActiveSegment) → next ≤ f .«start_sample» → StartsFrom next a → StartsFrom next (Open (extendedBy f ratio (segmentFor a (max (f .«start_sample») prev))))
+extended-after : (next prev : ℕ) (f : FrameMetrics) (ratio : Float) (a : ActiveSegment) → next ≤ f .«start_sample» → StartsFrom next a → StartsFrom next (Open (extendedBy f ratio (segmentFor a (max (f .«start_sample») prev))))
 unfolding extendedBy segmentFor begunAt
-heard-after next prev f ratio Closed w h = omega arith
-heard-after next prev f ratio (Open s) w h = h
+extended-after next prev f ratio Closed w h = omega arith
+extended-after next prev f ratio (Open s) w h = h
 
 paused-after : (next : ℕ) (a : ActiveSegment) → StartsFrom next a → StartsFrom next (pausedBy a)
 unfolding pausedBy
@@ -476,8 +418,8 @@ paused-after next (Open s) h = h
 
 turned-after : (r : Rules) (limit next : ℕ) (t : Track) (f : FrameMetrics) (ratio : Float) (loud speech : Bool) → next ≤ f .«start_sample» → StartsFrom next (t .«active_segment»)
     → After next (r .lengths .«padding_samples») (turnedOf r limit t f ratio loud speech)
-unfolding turnedOf heardOf pausedOf activeTo
-turned-after r limit next t f ratio true speech w h = record { segment = heard-after next (t .«last_segment_end») f ratio (t .«active_segment») w h; rows = unfold reported in tt }
+unfolding turnedOf loudAdded pausedOf activeTo
+turned-after r limit next t f ratio true speech w h = record { segment = extended-after next (t .«last_segment_end») f ratio (t .«active_segment») w h; rows = unfold reported in tt }
 turned-after r limit next t f ratio false true w h = record { segment = paused-after next (t .«active_segment») h; rows = unfold reported in tt }
 turned-after r limit next t f ratio false false w h = closed-after r limit next t h
 
@@ -517,7 +459,7 @@ pub call-rows-from : (finish : Bool) (r : Rules) (limit next : ℕ) (fs : List F
 call-rows-from finish r limit next fs t a g o h w s =
     let rs = callRows finish r limit t fs in
     every-map _ _ (λ c e. omega (arith, e .0, e .1)) rs
-    (every-both _ _ rs (call-starts-after finish r limit next fs t w s .1) (in-order-starts (t .«last_segment_end») rs (callTrack finish r limit t fs .«last_segment_end») (call-in-order r limit a g finish t fs o h)))
+    (every-both _ _ rs (call-starts-after finish r limit next fs t w s .1) (in-order-starts (t .«last_segment_end») rs (call-in-order r limit a g finish t fs o h .0)))
 
 -- ---- the frames of a call
 

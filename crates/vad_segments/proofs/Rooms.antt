@@ -1,30 +1,30 @@
 -- How far one frame takes the track: positions by 1 at most, counts by a position and 1,025. Assumes nothing.
 use mathlib.Core.Bool.{Bool, true, false, cond}
 use mathlib.Core.List.{List, [], _∷_}
-use Prim.Native.Nat.{ℕ, _+_, _*_, _^_, _≤_, _<_, max}
+use Prim.Native.Nat.{ℕ, _+_, _*_, _≤_, _<_, max}
 use native.Mathlib.Omega.{arith}
 use lib.Dec.{leb}
 use lib.ListN.{length}
 use lib.Ieee.{Float}
 use Rattle.score.proofs.Laws.{score-le}
 use Rattle.vad_segments.specs.Loudness.{ratioOf}
-use Rattle.vad_segments.specs.Closing.{reported, talkOf, timeAt, paddedStart, paddedEnd, droppedOf, tooShort, timedOf, finalizedOf, settledOf, closedBy, closedOf, chunkOf}
-use Rattle.vad_segments.specs.Judging.{flooredTo, activeTo, begunAt, segmentFor, extendedBy, heardOf, pausedBy, pausedOf, isLoud, isSpeech, floorAfter, turnedOf, judgedOf, frameAt, framesAt, trackAfter}
-use Rattle.vad_segments.specs.Rooms.{LengthsWithin, SegmentWithin, ActiveWithin, Within, FrameWithin}
+use Rattle.vad_row.specs.Rows.{reported, talkOf}
+use Rattle.vad_row.specs.declared.Report.the-variants.{OneRow}
+use Rattle.vad_row.proofs.Laws.{talk-fits, report-le}
+use Rattle.vad_segments.specs.Closing.{timeAt, paddedStart, paddedEnd, droppedOf, tooShort, timedOf, finalizedOf, bookedOf, closedBy, closedOf, rowOf}
+use Rattle.vad_segments.specs.Judging.{flooredTo, activeTo, begunAt, segmentFor, extendedBy, loudAdded, pausedBy, pausedOf, isLoud, isSpeech, floorAfter, turnedOf, judgedOf, frameAt, framesAt, trackAfter}
+use Rattle.vad_segments.specs.Rooms.{lengthMost, framesMost, positionsFirst, countsFirst, positionsMost, countsMost, LengthsWithin, SegmentWithin, ActiveWithin, Within}
 use Rattle.vad_segments.specs.declared.Rules.{Rules}
 use Rattle.vad_segments.specs.declared.FrameMetrics.{FrameMetrics}
 use Rattle.vad_segments.specs.declared.ActiveSegmentState.{ActiveSegmentState}
 use Rattle.vad_segments.specs.declared.ActiveSegment.{ActiveSegment}
 use Rattle.vad_segments.specs.declared.ActiveSegment.the-variants.{Closed, Open}
-use Rattle.vad_segments.specs.declared.Report.{Report}
-use Rattle.vad_segments.specs.declared.Report.the-variants.{NoRow, Row}
 use Rattle.vad_segments.specs.declared.Finalized.{Finalized}
 use Rattle.vad_segments.specs.declared.Track.{Track}
 
-pub report-le : (p : Report) → length (reported p) ≤ 1
-unfolding reported
-report-le NoRow = omega arith
-report-le (Row r) = omega arith
+-- a frame's positions are at most p
+abbrev pub FrameWithin : ℕ → FrameMetrics → Type 0
+FrameWithin p f = (f .«start_sample» ≤ p) × (f .«end_sample» ≤ p)
 
 -- ---- a segment closed
 
@@ -38,12 +38,12 @@ module _ (r : Rules) (limit prev : ℕ) (s : ActiveSegmentState) (p b : ℕ) (h 
   dropped-ends = (omega arith, omega arith)
 
   timed-ends : (from to : ℕ) → to ≤ p + 1 → EndsBy (p + 1) (timedOf (r .config) limit prev from to s)
-  unfolding timedOf chunkOf reported talkOf
+  unfolding timedOf rowOf reported talkOf
   timed-ends from to l = go (leb (timeAt (r .config) to) (timeAt (r .config) from))
     where
-      go : (t : Bool) → EndsBy (p + 1) (cond t (droppedOf limit prev s) (record { end = to; report = Row (chunkOf (r .config) from to s) }))
+      go : (t : Bool) → EndsBy (p + 1) (cond t (droppedOf limit prev s) (record { end = to; report = OneRow (rowOf (r .config) from to s) }))
       go true = dropped-ends
-      go false = (omega arith, omega arith)
+      go false = (omega arith, omega (arith, talk-fits (rowOf (r .config) from to s) .most))
 
   padded-le : (padding : ℕ) → paddedEnd padding limit s ≤ p + 1
   unfolding paddedEnd
@@ -93,7 +93,7 @@ paused-within p b (Open s) h = (omega arith, omega arith, omega arith, omega ari
 
 module _ (r : Rules) (limit p b : ℕ) (most : limit ≤ p) where
   closed-within : (t : Track) → Within p b t → Grown p b (closedOf r limit t .track)
-  unfolding closedOf closedBy settledOf
+  unfolding closedOf closedBy bookedOf
   closed-within t h = go (t .«active_segment») (h .3)
     where
       go : (a : ActiveSegment) → ActiveWithin p b a → Grown p b (closedBy r limit t a .track)
@@ -105,9 +105,9 @@ module _ (r : Rules) (limit p b : ℕ) (most : limit ≤ p) where
           (e .0, omega arith, omega arith, tt)
 
   module _ (t : Track) (f : FrameMetrics) (h : Within p b t) (k : FrameWithin p f) where
-    heard-within : (ratio : Float) → Grown p b (heardOf t f ratio)
-    unfolding heardOf activeTo extendedBy
-    heard-within ratio =
+    added-within : (ratio : Float) → Grown p b (loudAdded t f ratio)
+    unfolding loudAdded activeTo extendedBy
+    added-within ratio =
         let at = max (f .«start_sample») (t .«last_segment_end») in
         let start = segment-start p b (t .«active_segment») at (h .3) (omega arith) in
         let n = segment-counts p b (t .«active_segment») at (h .3) in
@@ -116,7 +116,7 @@ module _ (r : Rules) (limit p b : ℕ) (most : limit ≤ p) where
 
     turned-within : (ratio : Float) (loud speech : Bool) → Grown p b (turnedOf r limit t f ratio loud speech .track)
     unfolding turnedOf pausedOf activeTo
-    turned-within ratio true speech = heard-within ratio
+    turned-within ratio true speech = added-within ratio
     turned-within ratio false true =
         (omega arith, omega arith, omega arith, active-up p (p + 1) (b + 1) (b + p + 1025) (omega arith) (omega arith) (pausedBy (t .«active_segment»)) (paused-within p b (t .«active_segment») (h .3)))
     turned-within ratio false false = closed-within t h
@@ -128,21 +128,27 @@ module _ (r : Rules) (limit p b : ℕ) (most : limit ≤ p) where
 -- ---- a call's frames
 
 -- before the frame i of a call
-abbrev pub Roomy : ℕ → ℕ → Track → Type 0
-Roomy i start t = (start ≤ 2 ^ 41 + i * 65536) × Within (2 ^ 41 + i * 65536) (2 ^ 60 + i * 2 ^ 43) t
+abbrev pub positionsAt : ℕ → ℕ
+positionsAt i = positionsFirst + i * lengthMost
 
-pub roomy-within : (i start : ℕ) (t : Track) → i ≤ 1024 → Roomy i start t → Within (2 ^ 42) (2 ^ 62) t
+abbrev pub countsAt : ℕ → ℕ
+countsAt i = countsFirst + i * (2 * positionsMost)
+
+abbrev pub Roomy : ℕ → ℕ → Track → Type 0
+Roomy i start t = (start ≤ positionsAt i) × Within (positionsAt i) (countsAt i) t
+
+pub roomy-within : (i start : ℕ) (t : Track) → i ≤ framesMost → Roomy i start t → Within positionsMost countsMost t
 roomy-within i start t l h = within-up _ _ _ _ (omega arith) (omega arith) t (h .1)
 
-module _ (r : Rules) (received : ℕ) (most : received ≤ 2 ^ 41) (short : LengthsWithin (r .lengths)) where
-  pub roomy-next : (i start : ℕ) (t : Track) (e : Float) → i < 1024 → Roomy i start t → Roomy (i + 1) (start + r .lengths .«hop_length») (judgedOf r received t (frameAt (r .lengths) received start e) .track)
+module _ (r : Rules) (received : ℕ) (most : received ≤ positionsFirst) (short : LengthsWithin (r .lengths)) where
+  pub roomy-next : (i start : ℕ) (t : Track) (e : Float) → i < framesMost → Roomy i start t → Roomy (i + 1) (start + r .lengths .«hop_length») (judgedOf r received t (frameAt (r .lengths) received start e) .track)
   unfolding frameAt
   roomy-next i start t e l h =
       let f = frameAt (r .lengths) received start e in
-      let w = judged-within r received (2 ^ 41 + i * 65536) (2 ^ 60 + i * 2 ^ 43) (omega arith) t f (h .1) (omega arith, omega arith) in
+      let w = judged-within r received (positionsAt i) (countsAt i) (omega arith) t f (h .1) (omega arith, omega arith) in
       (omega arith, within-up _ _ _ _ (omega arith) (omega arith) (judgedOf r received t f .track) w)
 
-  pub track-within : (es : List Float) (i start : ℕ) (t : Track) → i + length es ≤ 1024 → Roomy i start t → Within (2 ^ 42) (2 ^ 62) (trackAfter r received t (framesAt (r .lengths) received start es))
+  pub track-within : (es : List Float) (i start : ℕ) (t : Track) → i + length es ≤ framesMost → Roomy i start t → Within positionsMost countsMost (trackAfter r received t (framesAt (r .lengths) received start es))
   unfolding framesAt trackAfter
   track-within [] i start t l h = roomy-within i start t (omega arith) h
   track-within (e ∷ es) i start t l h = track-within es (i + 1) _ _ (omega arith) (roomy-next i start t e (omega arith) h)

@@ -4,17 +4,19 @@ use mathlib.Core.Bool.{Bool, true, false}
 use mathlib.Core.List.{List}
 use Prim.Native.Nat.{ℕ, _+_, _-_, _^_, _≤_, _<_}
 use native.Mathlib.Omega.{arith}
-use Rattle.lists.specs.Every.{Every, every-map}
+use Rattle.lists.specs.Every.{Every}
+use Rattle.lists.proofs.Every.{every-map}
 use Rattle.vad_config.proofs.Laws.{Accepted}
 use Rattle.vad_segments.specs.Judging.{callRows, callTrack}
 use Rattle.vad_segments.specs.Positions.{nextOf, decidedTo, undecidedOf}
-use Rattle.vad_segments.specs.Rooms.{FrameWithin}
+use Rattle.vad_segments.proofs.Rooms.{FrameWithin}
 use Rattle.vad_segments.specs.declared.Rules.{Rules}
 use Rattle.vad_segments.specs.declared.FrameMetrics.{FrameMetrics}
 use Rattle.vad_segments.specs.declared.ActiveSegment.{ActiveSegment}
 use Rattle.vad_segments.specs.declared.ActiveSegment.the-variants.{Closed, Open}
 use Rattle.vad_segments.specs.declared.Track.{Track}
-use Rattle.vad_segments.proofs.Ordered.{TrackOrdered, StartsFrom, RowsFrom, in-order-le, call-in-order, call-starts-after, call-rows-from}
+use Rattle.vad_row.proofs.Laws.{RowsFrom, between-le}
+use Rattle.vad_segments.proofs.Ordered.{TrackOrdered, StartsFrom, call-in-order, call-starts-after, call-rows-from}
 
 -- ---- the next start
 
@@ -72,5 +74,5 @@ module _ (finish : Bool) (r : Rules) (limit : ℕ) (fs : List FrameMetrics) (t :
       let n = next-carry carry (t .«active_segment») in
       let s = call-starts-after finish r limit next fs t frames-from (next-active carry (t .«active_segment»)) .0 in
       let later = next-from next onward (u .«active_segment») (omega arith) s in
-      let ends = in-order-le (t .«last_segment_end») (callRows finish r limit t fs) (u .«last_segment_end») (call-in-order r limit a g finish t fs o h) in
+      let ends = between-le (t .«last_segment_end») (callRows finish r limit t fs) (u .«last_segment_end») (call-in-order r limit a g finish t fs o h) in
       omega arith

@@ -1,20 +1,20 @@
 -- A segment closed, as `finalize_segment` does, and its row: document 01's 'Score, rows, tally'.
 use mathlib.Core.Bool.{Bool, false, _||_, cond}
-use mathlib.Core.List.{List, [], _∷_, _++_}
-use Prim.Native.Nat.{ℕ, suc, _+_, _-_, _/_, min, max}
+use Prim.Native.Nat.{ℕ, suc, _+_, _-_, min, max}
 use lib.Dec.{leb, ltb}
 use lib.ListN.{length}
 use lib.IntN.{pos}
 use lib.Ieee.{Float, binary32, ofInt, div, toBits}
 use Rattle.vad_config.specs.Lengths.{timeOfSampleOf}
 use Rattle.vad_config.specs.declared.VadConfig.{VadConfig}
+use Rattle.vad_row.specs.Rows.{reported, talkOf}
+use Rattle.vad_row.specs.declared.Row.{Row}
+use Rattle.vad_row.specs.declared.Report.the-variants.{NoRow, OneRow}
+use Rattle.vad_segments.specs.Setters.{bookedTo}
 use Rattle.vad_segments.specs.declared.Rules.{Rules}
 use Rattle.vad_segments.specs.declared.ActiveSegmentState.{ActiveSegmentState}
 use Rattle.vad_segments.specs.declared.ActiveSegment.{ActiveSegment}
 use Rattle.vad_segments.specs.declared.ActiveSegment.the-variants.{Closed, Open}
-use Rattle.vad_segments.specs.declared.SpeechChunk.{SpeechChunk}
-use Rattle.vad_segments.specs.declared.Report.{Report}
-use Rattle.vad_segments.specs.declared.Report.the-variants.{NoRow, Row}
 use Rattle.vad_segments.specs.declared.Finalized.{Finalized}
 use Rattle.vad_segments.specs.declared.Track.{Track}
 use Rattle.vad_segments.specs.declared.Judged.{Judged}
@@ -29,8 +29,8 @@ unfoldable pub timeAt : VadConfig → ℕ → ℕ
 timeAt c n = timeOfSampleOf (c .«stream_start_time») (c .«sample_rate») n
 
 -- 'start sample, end sample, start time, end time, score total, loud frames, bits of the f32 mean energy'
-unfoldable pub chunkOf : VadConfig → ℕ → ℕ → ActiveSegmentState → SpeechChunk
-chunkOf c start end s =
+unfoldable pub rowOf : VadConfig → ℕ → ℕ → ActiveSegmentState → Row
+rowOf c start end s =
     record {
       «start_sample» = start;
       «end_sample» = end;
@@ -40,40 +40,6 @@ chunkOf c start end s =
       «loud_frames» = s .«loud_frames»;
       «mean_energy» = toBits binary32 (meanEnergyOf s);
     }
-
--- 'A row is seven u64'
-unfoldable pub fieldsOf : SpeechChunk → List ℕ
-fieldsOf r =
-    r .«start_sample»
-    ∷ r .«end_sample»
-    ∷ r .«start_time»
-    ∷ r .«end_time»
-    ∷ r .«score_total»
-    ∷ r .«loud_frames»
-    ∷ r .«mean_energy»
-    ∷ []
-
-abbrev pub rowWidth : ℕ
-rowWidth = 7
-
--- of a lent slice 'its length div the fields of a row fit'
-unfoldable pub roomOf : ℕ → ℕ
-roomOf n = n / rowWidth
-
--- what a frame reports, as rows
-unfoldable pub reported : Report → List SpeechChunk
-reported NoRow = []
-reported (Row r) = r ∷ []
-
--- rows one after the other
-unfoldable pub flat : List SpeechChunk → List ℕ
-flat [] = []
-flat (r ∷ rs) = fieldsOf r ++ flat rs
-
--- 'talk samples: the sum of end − start over all rows'
-unfoldable pub talkOf : List SpeechChunk → ℕ
-talkOf [] = 0
-talkOf (r ∷ rs) = (r .«end_sample» - r .«start_sample») + talkOf rs
 
 -- ---- closing
 
@@ -96,7 +62,7 @@ tooShort c s = leb (s .«last_end_sample») (s .«start_sample») || ltb (s .«l
 -- a row, unless its end's time is not past its start's, which never is so either
 unfoldable pub timedOf : VadConfig → ℕ → ℕ → ℕ → ℕ → ActiveSegmentState → Finalized
 timedOf c limit prev start end s =
-    cond (leb (timeAt c end) (timeAt c start)) (droppedOf limit prev s) (record { end = end; report = Row (chunkOf c start end s) })
+    cond (leb (timeAt c end) (timeAt c start)) (droppedOf limit prev s) (record { end = end; report = OneRow (rowOf c start end s) })
 
 -- `finalize_segment`: the limit is what the end is clipped to, 'samples received by this call'; prev is the last segment end before
 unfoldable pub finalizedOf : Rules → ℕ → ℕ → ActiveSegmentState → Finalized
@@ -105,24 +71,16 @@ finalizedOf r limit prev s =
     cond (tooShort (r .config) s) (droppedOf limit prev s) (timedOf (r .config) limit prev (paddedStart padding prev s) (paddedEnd padding limit s) s)
 
 -- the state keeps the new end, 'rows reported and talk samples'
-unfoldable pub settledOf : Track → Finalized → Judged
-settledOf t f =
-    record {
-      track = record {
-        «noise_floor» = t .«noise_floor»;
-        «last_segment_end» = f .end;
-        «rows_reported» = t .«rows_reported» + length (reported (f .report));
-        «talk_samples» = t .«talk_samples» + talkOf (reported (f .report));
-        «active_segment» = Closed;
-      };
-      report = f .report;
-      loud = false;
-    }
+unfoldable pub bookedOf : Track → Finalized → Judged
+bookedOf t f =
+    let rows = t .«rows_reported» + length (reported (f .report)) in
+    let talk = t .«talk_samples» + talkOf (reported (f .report)) in
+    record { track = bookedTo (f .end) rows talk t; report = f .report; loud = false }
 
 -- the open segment, if there is one, closed
 unfoldable pub closedBy : Rules → ℕ → Track → ActiveSegment → Judged
 closedBy r limit t Closed = record { track = t; report = NoRow; loud = false }
-closedBy r limit t (Open s) = settledOf t (finalizedOf r limit (t .«last_segment_end») s)
+closedBy r limit t (Open s) = bookedOf t (finalizedOf r limit (t .«last_segment_end») s)
 
 unfoldable pub closedOf : Rules → ℕ → Track → Judged
 closedOf r limit t = closedBy r limit t (t .«active_segment»)

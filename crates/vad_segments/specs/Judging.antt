@@ -2,42 +2,31 @@
 use mathlib.Core.Bool.{Bool, true, false, cond}
 use mathlib.Core.List.{List, [], _∷_, _++_}
 use Prim.Native.Nat.{ℕ, suc, _+_, min, max}
-use lib.Ieee.{Float, binary32, ofBits, add}
+use lib.Ieee.{Float, binary32, add}
+use Rattle.float.specs.Numbers.{zero32}
 use Rattle.score.specs.Score.{scoreOf}
 use Rattle.vad_config.specs.declared.Lengths.{Lengths}
 use Rattle.vad_segments.specs.Loudness.{ratioOf, loudOf, inSpeechOf, weightOf, floorOf}
-use Rattle.vad_segments.specs.Closing.{reported, closedOf}
+use Rattle.vad_row.specs.Rows.{reported}
+use Rattle.vad_segments.specs.Setters.{framedTo, silentFor}
+use Rattle.vad_segments.specs.Closing.{closedOf}
 use Rattle.vad_segments.specs.declared.Rules.{Rules}
 use Rattle.vad_segments.specs.declared.FrameMetrics.{FrameMetrics}
 use Rattle.vad_segments.specs.declared.ActiveSegmentState.{ActiveSegmentState}
 use Rattle.vad_segments.specs.declared.ActiveSegment.{ActiveSegment}
 use Rattle.vad_segments.specs.declared.ActiveSegment.the-variants.{Closed, Open}
-use Rattle.vad_segments.specs.declared.SpeechChunk.{SpeechChunk}
-use Rattle.vad_segments.specs.declared.Report.the-variants.{NoRow}
+use Rattle.vad_row.specs.declared.Row.{Row}
+use Rattle.vad_row.specs.declared.Report.the-variants.{NoRow}
 use Rattle.vad_segments.specs.declared.Track.{Track}
 use Rattle.vad_segments.specs.declared.Judged.{Judged}
 
 -- ---- one frame
 
 unfoldable pub flooredTo : Float → Track → Track
-flooredTo floor t =
-    record {
-      «noise_floor» = floor;
-      «last_segment_end» = t .«last_segment_end»;
-      «rows_reported» = t .«rows_reported»;
-      «talk_samples» = t .«talk_samples»;
-      «active_segment» = t .«active_segment»;
-    }
+flooredTo floor t = framedTo floor (t .«active_segment») t
 
 unfoldable pub activeTo : ActiveSegment → Track → Track
-activeTo a t =
-    record {
-      «noise_floor» = t .«noise_floor»;
-      «last_segment_end» = t .«last_segment_end»;
-      «rows_reported» = t .«rows_reported»;
-      «talk_samples» = t .«talk_samples»;
-      «active_segment» = a;
-    }
+activeTo a t = framedTo (t .«noise_floor») a t
 
 -- a segment that begins: 'a new start is never before the last segment end'
 unfoldable pub begunAt : ℕ → ActiveSegmentState
@@ -46,7 +35,7 @@ begunAt start =
       «start_sample» = start;
       «last_end_sample» = start;
       «score_total» = 0;
-      «energy_sum» = ofBits binary32 0;
+      «energy_sum» = zero32;
       «loud_frames» = 0;
       «silence_run» = 0;
     }
@@ -67,23 +56,14 @@ extendedBy f ratio s =
       «silence_run» = 0;
     }
 
-unfoldable pub heardOf : Track → FrameMetrics → Float → Track
-heardOf t f ratio =
+unfoldable pub loudAdded : Track → FrameMetrics → Float → Track
+loudAdded t f ratio =
     activeTo (Open (extendedBy f ratio (segmentFor (t .«active_segment») (max (f .«start_sample») (t .«last_segment_end»))))) t
 
 -- a quiet frame that the hangover bears: the end stays
 unfoldable pub pausedBy : ActiveSegment → ActiveSegment
 pausedBy Closed = Closed
-pausedBy (Open s) =
-    Open
-    record {
-      «start_sample» = s .«start_sample»;
-      «last_end_sample» = s .«last_end_sample»;
-      «score_total» = s .«score_total»;
-      «energy_sum» = s .«energy_sum»;
-      «loud_frames» = s .«loud_frames»;
-      «silence_run» = suc (s .«silence_run»);
-    }
+pausedBy (Open s) = Open (silentFor (suc (s .«silence_run»)) s)
 
 unfoldable pub pausedOf : Track → Track
 pausedOf t = activeTo (pausedBy (t .«active_segment»)) t
@@ -104,7 +84,7 @@ floorAfter r t f =
 
 -- loud, a pause, or the end of a segment
 unfoldable pub turnedOf : Rules → ℕ → Track → FrameMetrics → Float → Bool → Bool → Judged
-turnedOf r limit t f ratio true speech = record { track = heardOf t f ratio; report = NoRow; loud = true }
+turnedOf r limit t f ratio true speech = record { track = loudAdded t f ratio; report = NoRow; loud = true }
 turnedOf r limit t f ratio false true = record { track = pausedOf t; report = NoRow; loud = false }
 turnedOf r limit t f ratio false false = closedOf r limit t
 
@@ -126,7 +106,7 @@ unfoldable pub trackAfter : Rules → ℕ → Track → List FrameMetrics → Tr
 trackAfter r limit t [] = t
 trackAfter r limit t (f ∷ fs) = trackAfter r limit (judgedOf r limit t f .track) fs
 
-unfoldable pub rowsOf : Rules → ℕ → Track → List FrameMetrics → List SpeechChunk
+unfoldable pub rowsOf : Rules → ℕ → Track → List FrameMetrics → List Row
 rowsOf r limit t [] = []
 rowsOf r limit t (f ∷ fs) = reported (judgedOf r limit t f .report) ++ rowsOf r limit (judgedOf r limit t f .track) fs
 
@@ -145,7 +125,7 @@ unfoldable pub endedOf : Bool → Rules → ℕ → Track → Judged
 endedOf true r limit t = closedOf r limit t
 endedOf false r limit t = record { track = t; report = NoRow; loud = false }
 
-unfoldable pub callRows : Bool → Rules → ℕ → Track → List FrameMetrics → List SpeechChunk
+unfoldable pub callRows : Bool → Rules → ℕ → Track → List FrameMetrics → List Row
 callRows finish r limit t fs = rowsOf r limit t fs ++ reported (endedOf finish r limit (trackAfter r limit t fs) .report)
 
 unfoldable pub callTrack : Bool → Rules → ℕ → Track → List FrameMetrics → Track

@@ -1,4 +1,5 @@
 pub mod Loudness
+pub mod Setters
 pub mod Closing
 pub mod Judging
 pub mod Positions

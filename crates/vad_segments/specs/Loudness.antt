@@ -6,7 +6,7 @@ use lib.Dec.{leb}
 use lib.Ieee.{Float, binary32, le, lt, sub, mul, div}
 use Rattle.float.specs.Finite.{orZero}
 use Rattle.float.specs.Fused.{fusedOf}
-use Rattle.vad_config.specs.Domain.{one32}
+use Rattle.float.specs.Numbers.{one32}
 use Rattle.vad_config.specs.declared.VadConfig.{VadConfig}
 use Rattle.vad_segments.specs.declared.ActiveSegment.{ActiveSegment}
 use Rattle.vad_segments.specs.declared.ActiveSegment.the-variants.{Closed, Open}

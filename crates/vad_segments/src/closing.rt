@@ -1,22 +1,25 @@
 // A segment closed: `finalize_segment`, and what the track keeps of it.
 ghost use mathlib.Core.Path.{_≡_};
-ghost use Prim.Native.Nat.{_+_, _≤_, _^_};
-ghost use lib.ListN.{length};
-ghost use Rattle.vad_segments.specs.Closing.{meanEnergyOf, timeAt, chunkOf, reported, talkOf, paddedStart, paddedEnd, droppedOf, tooShort, timedOf, finalizedOf, settledOf, closedOf};
+ghost use Prim.Native.Nat.{_+_, _≤_};
+ghost use Rattle.vad_row.specs.Rows.{reported, talkOf};
+ghost use Rattle.vad_segments.specs.Closing.{meanEnergyOf, timeAt, rowOf, paddedStart, paddedEnd, droppedOf, tooShort, timedOf, finalizedOf, bookedOf, closedOf};
 ghost use Rattle.vad_segments.specs.Judging.{endedOf};
-ghost use Rattle.vad_segments.specs.Rooms.{LengthsWithin, SegmentWithin, Within};
+ghost use Rattle.vad_segments.specs.Rooms.{lengthMost, positionsMost, countsMost, LengthsWithin, SegmentWithin, Within};
 use super::ActiveSegment;
 use super::ActiveSegmentState;
 use super::Finalized;
 use super::Judged;
-use super::Report;
 use super::Rules;
-use super::SpeechChunk;
 use super::Track;
 use super::order::greater;
-use super::order::less;
 use super::order::lesser;
+use super::order::saturating_sub;
+use super::setters::with_active;
 use vad_config::VadConfig;
+use vad_row::Report;
+use vad_row::Row;
+use vad_row::rows_in;
+use vad_row::talk_in;
 
 fn mean_energy(segment: ActiveSegmentState) -> f32
     ensures { λ r. ⌜ r ≡ meanEnergyOf segment ⌝ }
@@ -31,10 +34,10 @@ fn time_at(config: VadConfig, sample: u64) -> u64
 }
 
 // The one place where a row is made.
-fn speech_chunk(config: VadConfig, start: u64, end: u64, segment: ActiveSegmentState) -> SpeechChunk
-    ensures { λ r. ⌜ r ≡ chunkOf config start end segment ⌝ }
+fn row_of(config: VadConfig, start: u64, end: u64, segment: ActiveSegmentState) -> Row
+    ensures { λ r. ⌜ r ≡ rowOf config start end segment ⌝ }
 {
-    SpeechChunk {
+    Row {
         start_sample: start,
         end_sample: end,
         start_time: time_at(config, start),
@@ -65,11 +68,11 @@ fn too_short(config: VadConfig, segment: ActiveSegmentState) -> bool
 fn padded_start(padding: u64, prev_end: u64, segment: ActiveSegmentState) -> u64
     ensures { λ r. ⌜ r ≡ paddedStart padding «prev_end» segment ⌝ }
 {
-    greater(less(segment.start_sample, padding), prev_end)
+    greater(saturating_sub(segment.start_sample, padding), prev_end)
 }
 
 fn padded_end(padding: u64, limit: u64, segment: ActiveSegmentState) -> u64
-    requires { ⌜ (padding ≤ 65536) × SegmentWithin (2 ^ 42) (2 ^ 62) segment ⌝ }
+    requires { ⌜ (padding ≤ lengthMost) × SegmentWithin positionsMost countsMost segment ⌝ }
     ensures { λ r. ⌜ r ≡ paddedEnd padding limit segment ⌝ }
 {
     lesser(
@@ -91,10 +94,10 @@ fn timed(
     if time_at(config, end) <= time_at(config, start) {
         return dropped(segment, limit, prev_end);
     }
-    let chunk = speech_chunk(config, start, end, segment);
+    let row = row_of(config, start, end, segment);
     Finalized {
         end,
-        report: Report::Row(chunk),
+        report: Report::OneRow(row),
     }
 }
 
@@ -105,7 +108,7 @@ fn finalize_segment(
     limit: u64,
     prev_end: u64,
 ) -> Finalized
-    requires { ⌜ LengthsWithin (rules .lengths) × SegmentWithin (2 ^ 42) (2 ^ 62) segment ⌝ }
+    requires { ⌜ LengthsWithin (rules .lengths) × SegmentWithin positionsMost countsMost segment ⌝ }
     ensures { λ r. ⌜ r ≡ finalizedOf rules limit «prev_end» segment ⌝ }
 {
     let config = rules.config;
@@ -118,39 +121,16 @@ fn finalize_segment(
     timed(config, limit, prev_end, start, end, segment)
 }
 
-fn rows_in(report: Report) -> u64
-    ensures { λ r. ⌜ r ≡ length (reported report) ⌝ }
-{
-    match report {
-        Report::NoRow => 0,
-        Report::Row(_) => 1,
-    }
-}
-
-// The one place where talk is counted.
-fn talk_in(report: Report) -> u64
-    ensures { λ r. ⌜ r ≡ talkOf (reported report) ⌝ }
-{
-    match report {
-        Report::NoRow => 0,
-        Report::Row(chunk) => less(chunk.end_sample, chunk.start_sample),
-    }
-}
-
-fn settle(track: Track, finalized: Finalized) -> Judged
-    requires { ⌜ (track .«rows_reported» ≤ 2 ^ 62) × (track .«talk_samples» ≤ 2 ^ 62) × (talkOf (reported (finalized .report)) ≤ 2 ^ 62) ⌝ }
-    ensures { λ r. ⌜ r ≡ settledOf track finalized ⌝ }
+fn book(mut track: Track, finalized: Finalized) -> Judged
+    requires { ⌜ (track .«rows_reported» ≤ countsMost) × (track .«talk_samples» ≤ countsMost) × (talkOf (reported (finalized .report)) ≤ countsMost) ⌝ }
+    ensures { λ r. ⌜ r ≡ bookedOf track finalized ⌝ }
 {
     let report = finalized.report;
-    let settled = Track {
-        noise_floor: track.noise_floor,
-        last_segment_end: finalized.end,
-        rows_reported: track.rows_reported + rows_in(report),
-        talk_samples: track.talk_samples + talk_in(report),
-        active_segment: ActiveSegment::Closed,
-    };
+    track.last_segment_end = finalized.end;
+    track.rows_reported += rows_in(report);
+    track.talk_samples += talk_in(report);
     Judged {
-        track: settled,
+        track: with_active(track, ActiveSegment::Closed),
         report,
         loud: false,
     }
@@ -158,7 +138,7 @@ fn settle(track: Track, finalized: Finalized) -> Judged
 
 // Closes the open segment, if there is one.
 pub fn close(rules: Rules, limit: u64, track: Track) -> Judged
-    requires { ⌜ LengthsWithin (rules .lengths) × Within (2 ^ 42) (2 ^ 62) track × (limit ≤ 2 ^ 42) ⌝ }
+    requires { ⌜ LengthsWithin (rules .lengths) × Within positionsMost countsMost track × (limit ≤ positionsMost) ⌝ }
     ensures { λ r. ⌜ r ≡ closedOf rules limit track ⌝ }
 {
     let active = track.active_segment;
@@ -169,7 +149,7 @@ pub fn close(rules: Rules, limit: u64, track: Track) -> Judged
             loud: false,
         },
         ActiveSegment::Open(segment) => {
-            settle(
+            book(
                 track,
                 finalize_segment(rules, segment, limit, track.last_segment_end),
             )
@@ -179,7 +159,7 @@ pub fn close(rules: Rules, limit: u64, track: Track) -> Judged
 
 // What a call's end does: flush closes the open segment.
 pub fn ended(finish: bool, rules: Rules, limit: u64, track: Track) -> Judged
-    requires { ⌜ LengthsWithin (rules .lengths) × Within (2 ^ 42) (2 ^ 62) track × (limit ≤ 2 ^ 42) ⌝ }
+    requires { ⌜ LengthsWithin (rules .lengths) × Within positionsMost countsMost track × (limit ≤ positionsMost) ⌝ }
     ensures { λ r. ⌜ r ≡ endedOf finish rules limit track ⌝ }
 {
     if finish {

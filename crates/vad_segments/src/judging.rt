@@ -1,13 +1,12 @@
 // One frame judged: the loop body of `classify`.
 ghost use mathlib.Core.Path.{_≡_};
-ghost use Prim.Native.Nat.{_≤_, _^_};
-ghost use Rattle.vad_segments.specs.Judging.{frameAt, activeTo, segmentFor, extendedBy, heardOf, pausedBy, pausedOf, turnedOf, judgedOf};
-ghost use Rattle.vad_segments.specs.Rooms.{LengthsWithin, ActiveWithin, Within};
+ghost use Prim.Native.Nat.{_≤_};
+ghost use Rattle.vad_segments.specs.Judging.{frameAt, segmentFor, extendedBy, loudAdded, pausedBy, pausedOf, turnedOf, judgedOf};
+ghost use Rattle.vad_segments.specs.Rooms.{lengthMost, positionsMost, countsMost, LengthsWithin, ActiveWithin, Within};
 use super::ActiveSegment;
 use super::ActiveSegmentState;
 use super::FrameMetrics;
 use super::Judged;
-use super::Report;
 use super::Rules;
 use super::Track;
 use super::closing::close;
@@ -18,29 +17,19 @@ use super::loudness::next_floor;
 use super::loudness::required_ratio;
 use super::order::greater;
 use super::order::lesser;
+use super::setters::with_active;
 use vad_config::Lengths;
+use vad_row::Report;
 
 // A short frame ends where the sound received ends.
 pub fn frame_at(lengths: Lengths, received: u64, start: u64, energy: f32) -> FrameMetrics
-    requires { ⌜ (lengths .«frame_length» ≤ 65536) × (start ≤ 2 ^ 42) ⌝ }
+    requires { ⌜ (lengths .«frame_length» ≤ lengthMost) × (start ≤ positionsMost) ⌝ }
     ensures { λ r. ⌜ r ≡ frameAt lengths received start energy ⌝ }
 {
     FrameMetrics {
         start_sample: start,
         end_sample: lesser(start + lengths.frame_length as u64, received),
         energy,
-    }
-}
-
-fn with_active(track: Track, active: ActiveSegment) -> Track
-    ensures { λ r. ⌜ r ≡ activeTo active track ⌝ }
-{
-    Track {
-        noise_floor: track.noise_floor,
-        last_segment_end: track.last_segment_end,
-        rows_reported: track.rows_reported,
-        talk_samples: track.talk_samples,
-        active_segment: active,
     }
 }
 
@@ -62,24 +51,22 @@ fn segment_for(active: ActiveSegment, start: u64) -> ActiveSegmentState
 }
 
 // Only loud frames extend the segment.
-fn extend(segment: ActiveSegmentState, frame: FrameMetrics, ratio: f32) -> ActiveSegmentState
-    requires { ⌜ (segment .«score_total» ≤ 2 ^ 62) × (segment .«loud_frames» ≤ 2 ^ 62) ⌝ }
+fn extend(mut segment: ActiveSegmentState, frame: FrameMetrics, ratio: f32) -> ActiveSegmentState
+    requires { ⌜ (segment .«score_total» ≤ countsMost) × (segment .«loud_frames» ≤ countsMost) ⌝ }
     ensures { λ r. ⌜ r ≡ extendedBy frame ratio segment ⌝ }
 {
-    ActiveSegmentState {
-        start_sample: segment.start_sample,
-        last_end_sample: frame.end_sample,
-        score_total: segment.score_total + score::score(ratio),
-        energy_sum: segment.energy_sum + frame.energy,
-        loud_frames: segment.loud_frames + 1,
-        silence_run: 0,
-    }
+    segment.last_end_sample = frame.end_sample;
+    segment.score_total += score::score(ratio);
+    segment.energy_sum = segment.energy_sum + frame.energy;
+    segment.loud_frames += 1;
+    segment.silence_run = 0;
+    segment
 }
 
 // Overlapping frames can make a new segment start before the previous one ended; segments never overlap.
-fn hear(track: Track, frame: FrameMetrics, ratio: f32) -> Track
-    requires { ⌜ ActiveWithin (2 ^ 42) (2 ^ 62) (track .«active_segment») ⌝ }
-    ensures { λ r. ⌜ r ≡ heardOf track frame ratio ⌝ }
+fn add_loud(track: Track, frame: FrameMetrics, ratio: f32) -> Track
+    requires { ⌜ ActiveWithin positionsMost countsMost (track .«active_segment») ⌝ }
+    ensures { λ r. ⌜ r ≡ loudAdded track frame ratio ⌝ }
 {
     let active = track.active_segment;
     let start = greater(frame.start_sample, track.last_segment_end);
@@ -89,7 +76,7 @@ fn hear(track: Track, frame: FrameMetrics, ratio: f32) -> Track
 
 // A frame of the hangover keeps the segment open without moving its end.
 fn longer_pause(active: ActiveSegment) -> ActiveSegment
-    requires { ⌜ ActiveWithin (2 ^ 42) (2 ^ 62) active ⌝ }
+    requires { ⌜ ActiveWithin positionsMost countsMost active ⌝ }
     ensures { λ r. ⌜ r ≡ pausedBy active ⌝ }
 {
     match active {
@@ -103,7 +90,7 @@ fn longer_pause(active: ActiveSegment) -> ActiveSegment
 }
 
 fn pause(track: Track) -> Track
-    requires { ⌜ ActiveWithin (2 ^ 42) (2 ^ 62) (track .«active_segment») ⌝ }
+    requires { ⌜ ActiveWithin positionsMost countsMost (track .«active_segment») ⌝ }
     ensures { λ r. ⌜ r ≡ pausedOf track ⌝ }
 {
     let active = track.active_segment;
@@ -119,12 +106,12 @@ fn turn(
     loud: bool,
     speech: bool,
 ) -> Judged
-    requires { ⌜ LengthsWithin (rules .lengths) × Within (2 ^ 42) (2 ^ 62) track × (limit ≤ 2 ^ 42) ⌝ }
+    requires { ⌜ LengthsWithin (rules .lengths) × Within positionsMost countsMost track × (limit ≤ positionsMost) ⌝ }
     ensures { λ r. ⌜ r ≡ turnedOf rules limit track frame ratio loud speech ⌝ }
 {
     if loud {
         return Judged {
-            track: hear(track, frame, ratio),
+            track: add_loud(track, frame, ratio),
             report: Report::NoRow,
             loud: true,
         };
@@ -141,7 +128,7 @@ fn turn(
 
 // The floor is tracked through speech as well: otherwise a recording that begins with noise above the gate would be speech from its first frame on.
 pub fn judge(rules: Rules, limit: u64, track: Track, frame: FrameMetrics) -> Judged
-    requires { ⌜ LengthsWithin (rules .lengths) × Within (2 ^ 42) (2 ^ 62) track × (limit ≤ 2 ^ 42) ⌝ }
+    requires { ⌜ LengthsWithin (rules .lengths) × Within positionsMost countsMost track × (limit ≤ positionsMost) ⌝ }
     ensures { λ r. ⌜ r ≡ judgedOf rules limit track frame ⌝ }
 {
     let config = rules.config;

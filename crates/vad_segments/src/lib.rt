@@ -4,11 +4,13 @@ pub mod judging;
 mod loudness;
 mod order;
 pub mod positions;
+pub mod setters;
 
 ghost use mathlib.Core.Path.{_≡_};
 ghost use Rattle.vad_segments.specs.Loudness.{seedOf};
 use vad_config::Lengths;
 use vad_config::VadConfig;
+use vad_row::Report;
 
 // What opening fixed: the settings, the lengths worked out from them, and the weight that the host handed in.
 pub struct Rules {
@@ -50,22 +52,6 @@ pub struct Track {
     pub rows_reported: u64,
     pub talk_samples: u64,
     pub active_segment: ActiveSegment,
-}
-
-// A row; `mean_energy` is the f32's bits.
-pub struct SpeechChunk {
-    pub start_sample: u64,
-    pub end_sample: u64,
-    pub start_time: u64,
-    pub end_time: u64,
-    pub score_total: u64,
-    pub loud_frames: u64,
-    pub mean_energy: u64,
-}
-
-pub enum Report {
-    NoRow,
-    Row(SpeechChunk),
 }
 
 // A segment closed: the new last segment end, and the row if it was not dropped.

@@ -21,7 +21,7 @@ pub fn greater(a: u64, b: u64) -> u64
 }
 
 // 0 where b is above a.
-pub fn less(a: u64, b: u64) -> u64
+pub fn saturating_sub(a: u64, b: u64) -> u64
     ensures { λ r. ⌜ r ≡ a - b ⌝ }
 {
     if a <= b {

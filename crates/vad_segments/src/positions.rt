@@ -4,8 +4,8 @@ ghost use Rattle.vad_segments.specs.Positions.{holdsOf, nextOf, decidedT
 use super::ActiveSegment;
 use super::Track;
 use super::order::greater;
-use super::order::less;
 use super::order::lesser;
+use super::order::saturating_sub;
 
 // Whether a call whose frames make `held` in all goes on holding them.
 pub fn holds(finish: bool, warmup_frames: usize, held: usize) -> bool
@@ -28,7 +28,10 @@ fn next_start(carry_start: u64, active: ActiveSegment) -> u64
 fn decided_to(padding: u64, last_segment_end: u64, next: u64) -> u64
     ensures { λ r. ⌜ r ≡ decidedTo padding «last_segment_end» next ⌝ }
 {
-    greater(less(next, padding), lesser(last_segment_end, next))
+    greater(
+        saturating_sub(next, padding),
+        lesser(last_segment_end, next),
+    )
 }
 
 // The first sample whose judgement can still change.

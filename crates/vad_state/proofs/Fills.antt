@@ -7,19 +7,9 @@ use native.Mathlib.Omega.{arith}
 use lib.ListN.{length, take, drop, getD, set, replicate, drop-of-length-le, length-append, length-drop, length-replicate}
 use lib.Seq.{sets, sets-eq, take-append-seam, drop-append-seam, drop-cons, drop-drop, drop-append-le, take-at, drop-at, take-length, drop-length, length-sets, length-take-le}
 use lib.Ieee.{Float, nan}
-use Rattle.lists.specs.Stores.{sets-cons, sets-all}
-use Rattle.vad_config.specs.Domain.{zero32}
+use Rattle.lists.proofs.Stores.{sets-cons, sets-all}
+use Rattle.float.specs.Numbers.{zero32}
 use Rattle.vad_state.specs.Arrays.{filledOf}
-
--- one turn of `put`
-pub put-step : (to xs : List Float) (i : ℕ) → i < length xs → sets (set to i (getD xs i nan)) (i + 1) (drop (i + 1) xs) ≡ sets to i (drop i xs)
-put-step to xs i h =
-    let next : drop (i + 1) xs ≡ drop (suc i) xs = rw (add-one i) in
-    sets-cons to i (getD xs i nan) (drop (i + 1) xs) ∙ rw (next, drop-cons xs i nan)
-
--- and its end
-pub put-end : (to xs : List Float) (i : ℕ) → length xs ≤ i → sets to i (drop i xs) ≡ to
-put-end to xs i h = rw (drop-of-length-le xs h)
 
 drop-replicate : (i n : ℕ) (x : Float) → drop i (replicate n x) ≡ replicate (n - i) x
 drop-replicate zero n x = let e : n ≡ n - 0 = omega arith in ap (λ (k : ℕ). replicate k x) e

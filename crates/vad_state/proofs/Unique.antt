@@ -7,23 +7,20 @@ use lib.ListN.{length, take}
 use lib.Seq.{sets}
 use lib.Ieee.{Float}
 use Rattle.float.proofs.Unique.{only}
-use Rattle.vad_state.specs.State.{handedIn, soundOf}
-use Rattle.vad_state.specs.Kept.{keptOf, wholeOf}
+use Rattle.ranges.specs.Sizes.{frameMost}
+use Rattle.vad_state.specs.State.{stateOf, weightsIn, soundOf}
 use Rattle.vad_state.specs.Arrays.{filledOf}
 use Rattle.vad_state.specs.declared.VadDetector.{VadDetector}
 use Rattle.vad_state.specs.declared.Kept.{Kept}
 
-pub kept-of-unique : (d : VadDetector) (r q : Kept) → r ≡ keptOf d → q ≡ keptOf d → r ≡ q
-kept-of-unique d r q = only
-
 pub sound-unique : (d : VadDetector) (r q : Bool) → r ≡ soundOf d → q ≡ soundOf d → r ≡ q
 sound-unique d r q = only
 
-pub sound-lent-unique : (k : Kept) (window carry warmup : List Float) (r q : Bool) → r ≡ soundOf (wholeOf k window carry warmup) → q ≡ soundOf (wholeOf k window carry warmup) → r ≡ q
+pub sound-lent-unique : (k : Kept) (window carry warmup : List Float) (r q : Bool) → r ≡ soundOf (stateOf k window carry warmup) → q ≡ soundOf (stateOf k window carry warmup) → r ≡ q
 sound-lent-unique k window carry warmup r q = only
 
-pub handed-in-unique : (window : List Float) (rise : Float) (r q : Bool) → r ≡ handedIn window rise → q ≡ handedIn window rise → r ≡ q
-handed-in-unique window rise r q = only
+pub weights-in-unique : (window : List Float) (rise : Float) (r q : Bool) → r ≡ weightsIn window rise → q ≡ weightsIn window rise → r ≡ q
+weights-in-unique window rise r q = only
 
 -- of `filled` and the three that fill in place
 pub filled-unique : (n : ℕ) (xs r q : List Float) → r ≡ filledOf n xs → q ≡ filledOf n xs → r ≡ q
@@ -38,5 +35,5 @@ put-first-unique to xs r q n = only
 pub clear-unique : (to r q : List Float) (from : ℕ) → r ≡ filledOf (length to) (take from to) → q ≡ filledOf (length to) (take from to) → r ≡ q
 clear-unique to r q from = only
 
-pub clear-past-unique : (n : ℕ) (xs r q : List Float) → r ≡ filledOf 2048 (take n xs) → q ≡ filledOf 2048 (take n xs) → r ≡ q
+pub clear-past-unique : (n : ℕ) (xs r q : List Float) → r ≡ filledOf frameMost (take n xs) → q ≡ filledOf frameMost (take n xs) → r ≡ q
 clear-past-unique n xs r q = only

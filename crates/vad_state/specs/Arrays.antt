@@ -3,7 +3,7 @@ use mathlib.Core.List.{List, _++_}
 use Prim.Native.Nat.{ℕ, _-_}
 use lib.ListN.{length, replicate}
 use lib.Ieee.{Float}
-use Rattle.vad_config.specs.Domain.{zero32}
+use Rattle.float.specs.Numbers.{zero32}
 
 -- the numbers, and zeros up to n
 unfoldable pub filledOf : ℕ → List Float → List Float

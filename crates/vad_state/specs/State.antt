@@ -7,7 +7,8 @@ use lib.ListN.{take}
 use lib.Ieee.{Float, binary32, ofBits, lt, neg}
 use lib.Ieee.Scale.{finite}
 use Rattle.ranges.specs.Ranges.{within, allWithin, inDomain}
-use Rattle.vad_config.specs.Domain.{zero32, one32, receivedIn}
+use Rattle.float.specs.Numbers.{zero32, one32}
+use Rattle.vad_config.specs.Domain.{receivedIn}
 use Rattle.vad_config.specs.Settings.{lengthsOf, refusalOf}
 use Rattle.vad_config.specs.declared.Lengths.{Lengths}
 use Rattle.vad_segments.specs.declared.Rules.{Rules}
@@ -15,6 +16,9 @@ use Rattle.vad_segments.specs.declared.ActiveSegmentState.{ActiveSegmentState}
 use Rattle.vad_segments.specs.declared.ActiveSegment.{ActiveSegment}
 use Rattle.vad_segments.specs.declared.ActiveSegment.the-variants.{Closed, Open}
 use Rattle.vad_segments.specs.declared.Track.{Track}
+use Rattle.vad_state.specs.declared.Stream.{Stream}
+use Rattle.vad_state.specs.declared.Desk.{Desk}
+use Rattle.vad_state.specs.declared.Kept.{Kept}
 use Rattle.vad_state.specs.declared.VadDetector.{VadDetector}
 
 -- 0.5, 131,072 and 2^60, by their bits
@@ -27,22 +31,26 @@ loudest32 = ofBits binary32 0x4800_0000
 abbrev pub total32 : Float
 total32 = ofBits binary32 0x5D80_0000
 
+-- a state whose window, carry and warm-up are lent
+abbrev pub stateOf : Kept → List Float → List Float → List Float → VadDetector
+stateOf k window carry warmup = record { kept = k; window = window; carry = carry; warmup = warmup }
+
 -- ---- the used parts of the arrays
 
 unfoldable pub windowOf : VadDetector → List Float
-windowOf d = take (d .rules .lengths .«frame_length») (d .window)
+windowOf d = take (d .kept .rules .lengths .«frame_length») (d .window)
 
 unfoldable pub carriedOf : VadDetector → List Float
-carriedOf d = take (d .«carry_len») (d .carry)
+carriedOf d = take (d .kept .stream .«carry_len») (d .carry)
 
 unfoldable pub heldOf : VadDetector → List Float
-heldOf d = take (d .held) (d .warmup)
+heldOf d = take (d .kept .desk .held) (d .warmup)
 
 -- ---- 'its settings fail 1 to 14 or a derived number it keeps isn't theirs'
 
 -- 14: 'an entry is not in [0,1], or the rise weight is not in [0.5,1]'
-unfoldable pub handedIn : List Float → Float → Bool
-handedIn window rise = allWithin zero32 window one32 && within half32 rise one32
+unfoldable pub weightsIn : List Float → Float → Bool
+weightsIn window rise = allWithin zero32 window one32 && within half32 rise one32
 
 unfoldable pub sameLengths : Lengths → Lengths → Bool
 sameLengths l m =
@@ -56,15 +64,15 @@ unfoldable pub settingsSound : Rules → List Float → Bool
 settingsSound r window =
     eqb (refusalOf (r .config)) 0
     && sameLengths (r .lengths) (lengthsOf (r .config))
-    && handedIn (take (r .lengths .«frame_length») window) (r .«speech_floor_rise»)
+    && weightsIn (take (r .lengths .«frame_length») window) (r .«speech_floor_rise»)
 
 -- ---- 'the carry is a frame long or longer; carry start plus carry differs from samples received; a carried value isn't finite or exceeds 131,072; the last sample isn't finite or exceeds 65,536'
-unfoldable pub carrySound : ℕ → List Float → ℕ → ℕ → ℕ → Float → Bool
-carrySound frame carry length start received last =
-    ltb length frame
-    && eqb (start + length) received
-    && allWithin (neg loudest32) (take length carry) loudest32
-    && inDomain last
+unfoldable pub carrySound : ℕ → List Float → Stream → Bool
+carrySound frame carry s =
+    ltb (s .«carry_len») frame
+    && eqb (s .«carry_start» + s .«carry_len») (s .«processed_samples»)
+    && allWithin (neg loudest32) (take (s .«carry_len») carry) loudest32
+    && inDomain (s .«pre_emphasis_prev»)
 
 -- ---- 'the noise floor isn't finite or is below `energy_floor`; received exceeds 2^40; last segment end exceeds received; talk total exceeds last segment end; row count exceeds received'
 unfoldable pub trackSound : Float → ℕ → Track → Bool
@@ -81,12 +89,12 @@ unfoldable pub isClosed : ActiveSegment → Bool
 isClosed Closed = true
 isClosed (Open s) = false
 
-unfoldable pub heldSound : Lengths → List Float → ℕ → ℕ → ActiveSegment → Bool
-heldSound l warmup held start active =
-    ltb held (l .«warmup_frames»)
-    && eqb (held * l .«hop_length») start
-    && allWithin zero32 (take held warmup) loudest32
-    && isClosed active
+unfoldable pub heldSound : Lengths → List Float → ℕ → Desk → Bool
+heldSound l warmup start d =
+    ltb (d .held) (l .«warmup_frames»)
+    && eqb (d .held * l .«hop_length») start
+    && allWithin zero32 (take (d .held) warmup) loudest32
+    && isClosed (d .track .«active_segment»)
 
 -- ---- 'With a segment open: its start is below the last segment end or above received (equal is sound), its last loud end exceeds received, loud count is 0 or above received, score above 1,024 × loud count, energy total not in [0, 2^60], silence run above hangover'
 unfoldable pub segmentSound : ℕ → ℕ → ℕ → ActiveSegmentState → Bool
@@ -107,8 +115,11 @@ activeSound hangover received last (Open s) = segmentSound hangover received las
 -- ---- 'A state is malformed when' one of these fails
 unfoldable pub soundOf : VadDetector → Bool
 soundOf d =
-    settingsSound (d .rules) (d .window)
-    && carrySound (d .rules .lengths .«frame_length») (d .carry) (d .«carry_len») (d .«carry_start») (d .«processed_samples») (d .«pre_emphasis_prev»)
-    && trackSound (d .rules .config .«energy_floor») (d .«processed_samples») (d .track)
-    && (not (d .warming) || heldSound (d .rules .lengths) (d .warmup) (d .held) (d .«carry_start») (d .track .«active_segment»))
-    && activeSound (d .rules .config .«hangover_frames») (d .«processed_samples») (d .track .«last_segment_end») (d .track .«active_segment»)
+    let r = d .kept .rules in
+    let s = d .kept .stream in
+    let t = d .kept .desk .track in
+    settingsSound r (d .window)
+    && carrySound (r .lengths .«frame_length») (d .carry) s
+    && trackSound (r .config .«energy_floor») (s .«processed_samples») t
+    && (not (d .kept .desk .warming) || heldSound (r .lengths) (d .warmup) (s .«carry_start») (d .kept .desk))
+    && activeSound (r .config .«hangover_frames») (s .«processed_samples») (t .«last_segment_end») (t .«active_segment»)

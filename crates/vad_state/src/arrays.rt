@@ -4,6 +4,9 @@ ghost use Prim.Native.Nat.{_≤_};
 ghost use lib.ListN.{length, take};
 ghost use lib.Seq.{sets};
 ghost use Rattle.vad_state.specs.Arrays.{filledOf};
+ghost use Rattle.ranges.specs.Sizes.{frameMost, warmupMost};
+use ranges::FRAME_MOST;
+use ranges::WARMUP_MOST;
 
 // The numbers at the slice's start; what stands past them stays.
 pub fn put(to: &mut [f32], numbers: &[f32])
@@ -38,11 +41,11 @@ pub fn clear(to: &mut [f32], from: usize)
 }
 
 // The numbers, and zeros past them.
-pub fn filled(numbers: &[f32]) -> [f32; 2048]
-    requires { ⌜ length (now numbers) ≤ 2048 ⌝ }
-    ensures { λ r. ⌜ r ≡ filledOf 2048 (now (numbers .entry)) ⌝ }
+pub fn filled(numbers: &[f32]) -> [f32; FRAME_MOST]
+    requires { ⌜ length (now numbers) ≤ frameMost ⌝ }
+    ensures { λ r. ⌜ r ≡ filledOf frameMost (now (numbers .entry)) ⌝ }
 {
-    let mut array = [0.0; 2048];
+    let mut array = [0.0; FRAME_MOST];
     put(&mut array, numbers);
     array
 }
@@ -57,24 +60,24 @@ pub fn fill_slice(to: &mut [f32], numbers: &[f32])
 }
 
 // A struct's field is lent as the array that it is, and goes on as a slice.
-pub fn fill(to: &mut [f32; 2048], numbers: &[f32])
-    requires { ⌜ length (now numbers) ≤ 2048 ⌝ }
-    ensures { λ _. ⌜ now (to .exit) ≡ filledOf 2048 (now (numbers .entry)) ⌝ }
+pub fn fill(to: &mut [f32; FRAME_MOST], numbers: &[f32])
+    requires { ⌜ length (now numbers) ≤ frameMost ⌝ }
+    ensures { λ _. ⌜ now (to .exit) ≡ filledOf frameMost (now (numbers .entry)) ⌝ }
 {
     fill_slice(to, numbers);
 }
 
-pub fn fill_warmup(to: &mut [f32; 300], energies: &[f32])
-    requires { ⌜ length (now energies) ≤ 300 ⌝ }
-    ensures { λ _. ⌜ now (to .exit) ≡ filledOf 300 (now (energies .entry)) ⌝ }
+pub fn fill_warmup(to: &mut [f32; WARMUP_MOST], energies: &[f32])
+    requires { ⌜ length (now energies) ≤ warmupMost ⌝ }
+    ensures { λ _. ⌜ now (to .exit) ≡ filledOf warmupMost (now (energies .entry)) ⌝ }
 {
     fill_slice(to, energies);
 }
 
 // The first n numbers stay.
-pub fn clear_past(to: &mut [f32; 2048], n: usize)
-    requires { ⌜ n ≤ 2048 ⌝ }
-    ensures { λ _. ⌜ now (to .exit) ≡ filledOf 2048 (take n (now (to .entry))) ⌝ }
+pub fn clear_past(to: &mut [f32; FRAME_MOST], n: usize)
+    requires { ⌜ n ≤ frameMost ⌝ }
+    ensures { λ _. ⌜ now (to .exit) ≡ filledOf frameMost (take n (now (to .entry))) ⌝ }
 {
     clear(to, n);
 }

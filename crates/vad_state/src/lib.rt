@@ -3,23 +3,21 @@ pub mod arrays;
 
 ghost use mathlib.Core.Path.{_≡_};
 ghost use mathlib.Core.Bool.{not, _&&_, _||_};
-ghost use Prim.Native.Nat.{_≤_, _^_};
+ghost use Prim.Native.Nat.{_≤_};
 ghost use lib.ListN.{length};
-ghost use Rattle.vad_state.specs.Kept.{keptOf, wholeOf};
-ghost use Rattle.vad_state.specs.State.{handedIn, sameLengths, settingsSound, carrySound, trackSound, isClosed, heldSound, segmentSound, activeSound, soundOf};
+ghost use Rattle.ranges.specs.Sizes.{frameMost, warmupMost, receivedMost};
+ghost use Rattle.vad_state.specs.State.{stateOf, weightsIn, sameLengths, settingsSound, carrySound, trackSound, isClosed, heldSound, segmentSound, activeSound, soundOf};
+use ranges::FRAME_MOST;
+use ranges::RECEIVED_MOST;
+use ranges::WARMUP_MOST;
 use vad_config::Lengths;
 use vad_segments::ActiveSegment;
 use vad_segments::ActiveSegmentState;
 use vad_segments::Rules;
 use vad_segments::Track;
 
-// The Rust's `VadDetector` and `DetectorState`. Past the used part of an array an accepted call leaves zeros.
-pub struct VadDetector {
-    pub rules: Rules,
-    // As handed in at opening, a frame long.
-    pub window: [f32; 2048],
-    // Pre-emphasized values that no complete frame has used up yet.
-    pub carry: [f32; 2048],
+// How far the stream has come. What a call does to it looks at samples and never at energies.
+pub struct Stream {
     pub carry_len: usize,
     // Where the carry starts in the stream.
     pub carry_start: u64,
@@ -27,46 +25,37 @@ pub struct VadDetector {
     pub processed_samples: u64,
     // The last raw sample.
     pub pre_emphasis_prev: f32,
+}
+
+// Where frames are judged. What a call does to it looks at energies and never at samples.
+pub struct Desk {
     // Whether the first frames are still held back, until the background can be estimated from them.
     pub warming: bool,
-    // The energies of the frames held.
-    pub warmup: [f32; 300],
     pub held: usize,
     pub track: Track,
 }
 
-// A state without its arrays, which are lent where they are looked at.
+// All of a state but its arrays, which are lent where they are looked at.
 pub struct Kept {
     pub rules: Rules,
-    pub carry_len: usize,
-    pub carry_start: u64,
-    pub processed_samples: u64,
-    pub pre_emphasis_prev: f32,
-    pub warming: bool,
-    pub held: usize,
-    pub track: Track,
+    pub stream: Stream,
+    pub desk: Desk,
 }
 
-pub fn kept_of(detector: VadDetector) -> Kept
-    ensures { λ r. ⌜ r ≡ keptOf detector ⌝ }
-{
-    let rules = detector.rules;
-    let track = detector.track;
-    Kept {
-        rules,
-        carry_len: detector.carry_len,
-        carry_start: detector.carry_start,
-        processed_samples: detector.processed_samples,
-        pre_emphasis_prev: detector.pre_emphasis_prev,
-        warming: detector.warming,
-        held: detector.held,
-        track,
-    }
+// The Rust's `VadDetector` and `DetectorState`. Past the used part of an array an accepted call leaves zeros.
+pub struct VadDetector {
+    pub kept: Kept,
+    // As handed in at opening, a frame long.
+    pub window: [f32; FRAME_MOST],
+    // Pre-emphasized values that no complete frame has used up yet.
+    pub carry: [f32; FRAME_MOST],
+    // The energies of the frames held.
+    pub warmup: [f32; WARMUP_MOST],
 }
 
 // Of 14 what does not speak of the window's length.
-pub fn handed_in(window: &[f32], rise: f32) -> bool
-    ensures { λ r. ⌜ r ≡ handedIn (now (window .entry)) rise ⌝ }
+pub fn weights_in(window: &[f32], rise: f32) -> bool
+    ensures { λ r. ⌜ r ≡ weightsIn (now (window .entry)) rise ⌝ }
 {
     if !ranges::all_inside(0.0, window, 1.0) {
         return false;
@@ -91,7 +80,7 @@ fn same_lengths(a: Lengths, b: Lengths) -> bool
 
 // Only the frame's part of the window is looked at.
 fn settings_sound(rules: Rules, window: &[f32]) -> bool
-    requires { ⌜ length (now window) ≡ 2048 ⌝ }
+    requires { ⌜ length (now window) ≡ frameMost ⌝ }
     ensures { λ r. ⌜ r ≡ settingsSound rules (now (window .entry)) ⌝ }
 {
     let config = rules.config;
@@ -103,34 +92,28 @@ fn settings_sound(rules: Rules, window: &[f32]) -> bool
         return false;
     }
     let frame_length = lengths.frame_length;
-    handed_in(&window[0..frame_length], rules.speech_floor_rise)
+    weights_in(&window[0..frame_length], rules.speech_floor_rise)
 }
 
 // Only the carry's own part of its array is looked at.
-fn carry_sound(
-    frame_length: usize,
-    carry: &[f32],
-    carry_len: usize,
-    carry_start: u64,
-    received: u64,
-    last: f32,
-) -> bool
-    requires { ⌜ («frame_length» ≤ 2048) × (length (now carry) ≡ 2048) ⌝ }
-    ensures { λ r. ⌜ r ≡ carrySound «frame_length» (now (carry .entry)) «carry_len» «carry_start» received last ⌝ }
+fn carry_sound(frame_length: usize, carry: &[f32], stream: Stream) -> bool
+    requires { ⌜ («frame_length» ≤ frameMost) × (length (now carry) ≡ frameMost) ⌝ }
+    ensures { λ r. ⌜ r ≡ carrySound «frame_length» (now (carry .entry)) stream ⌝ }
 {
+    let carry_len = stream.carry_len;
     if frame_length <= carry_len {
         return false;
     }
-    if received < carry_start {
+    if stream.processed_samples < stream.carry_start {
         return false;
     }
-    if received - carry_start != carry_len as u64 {
+    if stream.processed_samples - stream.carry_start != carry_len as u64 {
         return false;
     }
     if !ranges::all_inside(-131072.0, &carry[0..carry_len], 131072.0) {
         return false;
     }
-    ranges::inside(-65536.0, last, 65536.0)
+    ranges::inside(-65536.0, stream.pre_emphasis_prev, 65536.0)
 }
 
 fn track_sound(energy_floor: f32, received: u64, track: Track) -> bool
@@ -142,7 +125,7 @@ fn track_sound(energy_floor: f32, received: u64, track: Track) -> bool
     if track.noise_floor < energy_floor {
         return false;
     }
-    if 0x100_0000_0000 < received {
+    if RECEIVED_MOST < received {
         return false;
     }
     if received < track.last_segment_end {
@@ -163,16 +146,11 @@ fn is_closed(active: ActiveSegment) -> bool
     }
 }
 
-fn held_sound(
-    lengths: Lengths,
-    warmup: &[f32],
-    held: usize,
-    carry_start: u64,
-    active: ActiveSegment,
-) -> bool
-    requires { ⌜ (lengths .«warmup_frames» ≤ 300) × (lengths .«hop_length» ≤ 2048) × (length (now warmup) ≡ 300) ⌝ }
-    ensures { λ r. ⌜ r ≡ heldSound lengths (now (warmup .entry)) held «carry_start» active ⌝ }
+fn held_sound(lengths: Lengths, warmup: &[f32], carry_start: u64, desk: Desk) -> bool
+    requires { ⌜ (lengths .«warmup_frames» ≤ warmupMost) × (lengths .«hop_length» ≤ frameMost) × (length (now warmup) ≡ warmupMost) ⌝ }
+    ensures { λ r. ⌜ r ≡ heldSound lengths (now (warmup .entry)) «carry_start» desk ⌝ }
 {
+    let held = desk.held;
     if lengths.warmup_frames <= held {
         return false;
     }
@@ -182,6 +160,8 @@ fn held_sound(
     if !ranges::all_inside(0.0, &warmup[0..held], 131072.0) {
         return false;
     }
+    let track = desk.track;
+    let active = track.active_segment;
     is_closed(active)
 }
 
@@ -191,7 +171,7 @@ fn segment_sound(
     last_segment_end: u64,
     segment: ActiveSegmentState,
 ) -> bool
-    requires { ⌜ received ≤ 2 ^ 40 ⌝ }
+    requires { ⌜ received ≤ receivedMost ⌝ }
     ensures { λ r. ⌜ r ≡ segmentSound «hangover_frames» received «last_segment_end» segment ⌝ }
 {
     if segment.start_sample < last_segment_end {
@@ -224,7 +204,7 @@ fn active_sound(
     last_segment_end: u64,
     active: ActiveSegment,
 ) -> bool
-    requires { ⌜ received ≤ 2 ^ 40 ⌝ }
+    requires { ⌜ received ≤ receivedMost ⌝ }
     ensures { λ r. ⌜ r ≡ activeSound «hangover_frames» received «last_segment_end» active ⌝ }
 {
     match active {
@@ -236,33 +216,18 @@ fn active_sound(
 }
 
 // The settings, and the carry, which sound settings bound. The arrays have one lifetime, as two fields of one state that are lent at once.
-fn kept_sound<'a>(
-    rules: Rules,
-    window: &'a [f32],
-    carry: &'a [f32],
-    carry_len: usize,
-    carry_start: u64,
-    received: u64,
-    last: f32,
-) -> bool
-    requires { ⌜ (length (now window) ≡ 2048) × (length (now carry) ≡ 2048) ⌝ }
-    ensures { λ r. ⌜ r ≡ (settingsSound rules (now (window .entry)) && carrySound (rules .lengths .«frame_length») (now (carry .entry)) «carry_len» «carry_start» received last) ⌝ }
+fn stream_sound<'a>(rules: Rules, window: &'a [f32], carry: &'a [f32], stream: Stream) -> bool
+    requires { ⌜ (length (now window) ≡ frameMost) × (length (now carry) ≡ frameMost) ⌝ }
+    ensures { λ r. ⌜ r ≡ (settingsSound rules (now (window .entry)) && carrySound (rules .lengths .«frame_length») (now (carry .entry)) stream) ⌝ }
 {
     if !settings_sound(rules, window) {
         return false;
     }
-    carry_sound(
-        rules.lengths.frame_length,
-        carry,
-        carry_len,
-        carry_start,
-        received,
-        last,
-    )
+    carry_sound(rules.lengths.frame_length, carry, stream)
 }
 
-// What was heard, and the segment that is open.
-fn heard_sound(rules: Rules, received: u64, track: Track) -> bool
+// What was judged, and the segment that is open.
+fn judging_sound(rules: Rules, received: u64, track: Track) -> bool
     ensures { λ r. ⌜ r ≡ (trackSound (rules .config .«energy_floor») received track && activeSound (rules .config .«hangover_frames») received (track .«last_segment_end») (track .«active_segment»)) ⌝ }
 {
     if !track_sound(rules.config.energy_floor, received, track) {
@@ -278,63 +243,38 @@ fn heard_sound(rules: Rules, received: u64, track: Track) -> bool
 }
 
 // The frames held back: nothing is asked of them after the warm-up.
-fn warmup_sound(
-    warming: bool,
-    rules: Rules,
-    warmup: &[f32],
-    held: usize,
-    carry_start: u64,
-    track: Track,
-) -> bool
-    requires { ⌜ (rules .lengths .«warmup_frames» ≤ 300) × (rules .lengths .«hop_length» ≤ 2048) × (length (now warmup) ≡ 300) ⌝ }
-    ensures { λ r. ⌜ r ≡ (not warming || heldSound (rules .lengths) (now (warmup .entry)) held «carry_start» (track .«active_segment»)) ⌝ }
+fn warmup_sound(rules: Rules, warmup: &[f32], carry_start: u64, desk: Desk) -> bool
+    requires { ⌜ (rules .lengths .«warmup_frames» ≤ warmupMost) × (rules .lengths .«hop_length» ≤ frameMost) × (length (now warmup) ≡ warmupMost) ⌝ }
+    ensures { λ r. ⌜ r ≡ (not (desk .warming) || heldSound (rules .lengths) (now (warmup .entry)) «carry_start» desk) ⌝ }
 {
-    if !warming {
+    if !desk.warming {
         return true;
     }
     let lengths = rules.lengths;
-    let active = track.active_segment;
-    held_sound(lengths, warmup, held, carry_start, active)
+    held_sound(lengths, warmup, carry_start, desk)
 }
 
 // A state whose arrays are lent, so that none is copied.
 pub fn sound_lent<'a>(kept: Kept, window: &'a [f32], carry: &'a [f32], warmup: &'a [f32]) -> bool
-    requires { ⌜ (length (now window) ≡ 2048) × (length (now carry) ≡ 2048) × (length (now warmup) ≡ 300) ⌝ }
-    ensures { λ r. ⌜ r ≡ soundOf (wholeOf kept (now (window .entry)) (now (carry .entry)) (now (warmup .entry))) ⌝ }
+    requires { ⌜ (length (now window) ≡ frameMost) × (length (now carry) ≡ frameMost) × (length (now warmup) ≡ warmupMost) ⌝ }
+    ensures { λ r. ⌜ r ≡ soundOf (stateOf kept (now (window .entry)) (now (carry .entry)) (now (warmup .entry))) ⌝ }
 {
     let rules = kept.rules;
-    if !kept_sound(
-        rules,
-        window,
-        carry,
-        kept.carry_len,
-        kept.carry_start,
-        kept.processed_samples,
-        kept.pre_emphasis_prev,
-    ) {
+    let stream = kept.stream;
+    if !stream_sound(rules, window, carry, stream) {
         return false;
     }
-    let track = kept.track;
-    if !heard_sound(rules, kept.processed_samples, track) {
+    let desk = kept.desk;
+    let track = desk.track;
+    if !judging_sound(rules, stream.processed_samples, track) {
         return false;
     }
-    warmup_sound(
-        kept.warming,
-        rules,
-        warmup,
-        kept.held,
-        kept.carry_start,
-        track,
-    )
+    warmup_sound(rules, warmup, stream.carry_start, desk)
 }
 
 pub fn sound(detector: VadDetector) -> bool
     ensures { λ r. ⌜ r ≡ soundOf detector ⌝ }
 {
-    sound_lent(
-        kept_of(detector),
-        &detector.window,
-        &detector.carry,
-        &detector.warmup,
-    )
+    let kept = detector.kept;
+    sound_lent(kept, &detector.window, &detector.carry, &detector.warmup)
 }

@@ -57,30 +57,31 @@ static uint64_t play(struct fallowcart_vad *first, struct fallowcart_row *row) {
         if (call == 6) break;
         for (int i = 0; i < 80; i++) block[i] = levels[call];
         HOLDS(fallowcart_vad_detect(MEMORY(*vad), block, 80, rows, 2 * FALLOWCART_ROW_FIELDS) == 0);
-        HOLDS(vad->numbers[FALLOWCART_ROWS] == 0 && rows[0] == 77);
-        HOLDS(vad->numbers[13] == 80u * (unsigned)(call + 1));
+        HOLDS(vad->numbers[FALLOWCART_VAD_ROWS] == 0 && rows[0] == 77);
+        HOLDS(vad->numbers[FALLOWCART_VAD_PROCESSED_SAMPLES] == 80u * (unsigned)(call + 1));
     }
     /* No room for the row: refused, and nothing is written. */
     uint64_t answer = fallowcart_vad_flush(MEMORY(*vad), rows, FALLOWCART_ROW_FIELDS - 1);
-    HOLDS(fallowcart_refusal(answer) == 18 && fallowcart_carried(answer) == 1);
+    HOLDS(fallowcart_refusal(answer) == FALLOWCART_REFUSED_ROWS && fallowcart_carried(answer) == 1);
     HOLDS(memcmp(stored, vad, sizeof stored) == 0 && rows[0] == 77);
     HOLDS(fallowcart_vad_flush(MEMORY(*vad), rows, 2 * FALLOWCART_ROW_FIELDS) == 0);
     HOLDS(rows[FALLOWCART_ROW_FIELDS] == 77);
     memcpy(row, rows, sizeof *row);
     if (vad != first) memcpy(first, vad, sizeof *vad);
-    return vad->numbers[FALLOWCART_ROWS];
+    return vad->numbers[FALLOWCART_VAD_ROWS];
 }
 
 static void detector(void) {
     static struct fallowcart_vad vad;
     struct fallowcart_row row;
 
-    HOLDS(sizeof vad == 17864);
+    /* Nothing between the numbers and the floats, and the padding of at most one float after them. */
+    HOLDS(sizeof vad - (8 * FALLOWCART_VAD_NUMBERS + 4 * FALLOWCART_VAD_FLOATS) <= 4);
     HOLDS(sizeof row == 8 * FALLOWCART_ROW_FIELDS);
 
     /* Zeros are no state. */
-    HOLDS(fallowcart_vad_undecided_from(MEMORY(vad)) == 19);
-    HOLDS(fallowcart_vad_reset(MEMORY(vad), 0) == 19);
+    HOLDS(fallowcart_vad_undecided_from(MEMORY(vad)) == FALLOWCART_REFUSED_STATE);
+    HOLDS(fallowcart_vad_reset(MEMORY(vad), 0) == FALLOWCART_REFUSED_STATE);
 
     HOLDS(open_run(&vad, 2.0f) == 0);
     HOLDS(play(&vad, &row) == 1);
@@ -94,13 +95,13 @@ static void detector(void) {
     HOLDS(fallowcart_vad_rows_reported(MEMORY(vad)) == (uint64_t)1 << 8);
     HOLDS(fallowcart_vad_talk_samples(MEMORY(vad)) == (uint64_t)160 << 8);
     uint64_t floor = fallowcart_vad_noise_floor(MEMORY(vad));
-    HOLDS(fallowcart_refusal(floor) == 0 && fallowcart_carried(floor) == float_as_bits(vad.floats[4405]));
+    HOLDS(fallowcart_refusal(floor) == 0 && fallowcart_carried(floor) == float_as_bits(vad.floats[FALLOWCART_VAD_FLOAT_NOISE_FLOOR]));
 
-    /* The floats 0 to 2047 are the window, the number 6 the start. */
     HOLDS(fallowcart_vad_reset(MEMORY(vad), 42) == 0);
-    HOLDS(vad.numbers[6] == 42 && vad.numbers[17] == 0 && vad.floats[79] == 1.0f && vad.floats[80] == 0.0f);
-    HOLDS(fallowcart_vad_reset(MEMORY(vad), (uint64_t)1 << 63) == 13);
-    HOLDS(vad.numbers[6] == 42);
+    HOLDS(vad.numbers[FALLOWCART_VAD_STREAM_START_TIME] == 42 && vad.numbers[FALLOWCART_VAD_ROWS_REPORTED] == 0 &&
+          vad.floats[FALLOWCART_VAD_FLOAT_WINDOW + 79] == 1.0f && vad.floats[FALLOWCART_VAD_FLOAT_WINDOW + 80] == 0.0f);
+    HOLDS(fallowcart_vad_reset(MEMORY(vad), (uint64_t)1 << 63) == FALLOWCART_REFUSED_LIMITS);
+    HOLDS(vad.numbers[FALLOWCART_VAD_STREAM_START_TIME] == 42);
 
     HOLDS(open_run(&vad, 1.5f) == 0);
     HOLDS(play(&vad, &row) == 1);
@@ -109,25 +110,28 @@ static void detector(void) {
     HOLDS(row.score_total == 1325 && row.loud_frames == 2 && row.mean_energy == 1065353216);
 
     /* A block's refusals. */
-    float block[1025] = {0};
+    float block[FALLOWCART_LONGEST_BLOCK + 1] = {0};
     uint64_t rows[1];
-    HOLDS(fallowcart_vad_detect(MEMORY(vad), block, 1025, rows, 0) == 15);
+    HOLDS(fallowcart_vad_detect(MEMORY(vad), block, FALLOWCART_LONGEST_BLOCK + 1, rows, 0) == FALLOWCART_REFUSED_BLOCK);
     block[3] = 65537.0f;
-    HOLDS(fallowcart_vad_detect(MEMORY(vad), block, 1024, rows, 0) == (16 | 3 << 8));
+    HOLDS(fallowcart_vad_detect(MEMORY(vad), block, FALLOWCART_LONGEST_BLOCK, rows, 0) == (FALLOWCART_REFUSED_SAMPLE | 3 << 8));
 
-    /* Short memory, a flag that is none, a refused opening. */
-    HOLDS(fallowcart_vad_flush(vad.numbers, FALLOWCART_VAD_NUMBERS - 1, vad.floats, FALLOWCART_VAD_FLOATS, rows, 0) == 19);
-    HOLDS(fallowcart_vad_flush(vad.numbers, FALLOWCART_VAD_NUMBERS, vad.floats, FALLOWCART_VAD_FLOATS - 1, rows, 0) == 19);
-    vad.numbers[14] = 2;
-    HOLDS(fallowcart_vad_flush(MEMORY(vad), rows, 0) == 19);
-    HOLDS(open_run(&vad, 0.5f) == 5);
-    static const struct fallowcart_vad zeros;
-    HOLDS(memcmp(&vad, &zeros, sizeof zeros) == 0);
+    /* Short memory, a flag that is none, another layout, a refused opening. */
+    HOLDS(fallowcart_vad_flush(vad.numbers, FALLOWCART_VAD_NUMBERS - 1, vad.floats, FALLOWCART_VAD_FLOATS, rows, 0) == FALLOWCART_REFUSED_STATE);
+    HOLDS(fallowcart_vad_flush(vad.numbers, FALLOWCART_VAD_NUMBERS, vad.floats, FALLOWCART_VAD_FLOATS - 1, rows, 0) == FALLOWCART_REFUSED_STATE);
+    vad.numbers[FALLOWCART_VAD_WARMING] = 2;
+    HOLDS(fallowcart_vad_flush(MEMORY(vad), rows, 0) == FALLOWCART_REFUSED_STATE);
+    HOLDS(open_run(&vad, 2.0f) == 0 && vad.numbers[FALLOWCART_VAD_LAYOUT] == FALLOWCART_VAD_LAYOUT_NAME);
+    vad.numbers[FALLOWCART_VAD_LAYOUT]++;
+    HOLDS(fallowcart_vad_flush(MEMORY(vad), rows, 0) == FALLOWCART_REFUSED_STATE);
+    HOLDS(open_run(&vad, 0.5f) == FALLOWCART_REFUSED_RELEASE_RATIO);
+    static const struct fallowcart_vad left = {.numbers = {[FALLOWCART_VAD_LAYOUT] = FALLOWCART_VAD_LAYOUT_NAME}};
+    HOLDS(memcmp(&vad, &left, sizeof left) == 0);
 }
 
 static void settings(void) {
     HOLDS(fallowcart_settings_refusal(16000, 20000000, 0.5f, true, 0.97f, 2.5f, 1.3f, 0.0005f, 0.85f, 0.0001f, 20, 50000000, 3, 0) == 0);
-    HOLDS(fallowcart_settings_refusal(16000, 20000000, 0.5f, true, 0.97f, 1.2f, 1.3f, 0.0005f, 0.85f, 0.0001f, 20, 50000000, 3, 0) == 6);
+    HOLDS(fallowcart_settings_refusal(16000, 20000000, 0.5f, true, 0.97f, 1.2f, 1.3f, 0.0005f, 0.85f, 0.0001f, 20, 50000000, 3, 0) == FALLOWCART_REFUSED_ACTIVATION_RATIO);
     HOLDS(fallowcart_frame_length(16000, 20000000) == 320);
     HOLDS(fallowcart_hop_length(320, 0.5f) == 160);
     HOLDS(fallowcart_warmup_frames(160, 16000) == 30);
@@ -140,17 +144,17 @@ static void filter(void) {
     float samples[4] = {0.25f, -0.25f, 0.5f, 0.0f}, output[4] = {9.0f, 9.0f, 9.0f, 9.0f};
     static const float pass[10] = {1.0f, 0.0f, 0.0f, 0.0f, 0.0f, 1.0f, 0.0f, 0.0f, 0.0f, 0.0f};
 
-    HOLDS(fallowcart_filter_bias(state, FALLOWCART_FILTER_WORDS) == 27);
+    HOLDS(fallowcart_filter_bias(state, FALLOWCART_FILTER_WORDS) == FALLOWCART_REFUSED_FILTER_STATE);
     HOLDS(fallowcart_filter_open(80.0f, 16000, 0.5f, true, true, true, pass, 10, state, FALLOWCART_FILTER_WORDS) == 0);
     HOLDS(fallowcart_filter_process(state, FALLOWCART_FILTER_WORDS, samples, 3, true, false, output, 4) == 0);
     HOLDS(output[0] == 0.25f && output[1] == -0.25f && output[2] == 0.5f && output[3] == 9.0f);
     /* A block without a context moves the bias half way to its mean. */
     HOLDS(fallowcart_filter_process(state, FALLOWCART_FILTER_WORDS, samples, 4, false, false, output, 4) == 0);
     HOLDS(bits_as_float(fallowcart_carried(fallowcart_filter_bias(state, FALLOWCART_FILTER_WORDS))) == 0.0625f);
-    HOLDS(fallowcart_filter_process(state, FALLOWCART_FILTER_WORDS, samples, 4, false, false, output, 3) == 25);
+    HOLDS(fallowcart_filter_process(state, FALLOWCART_FILTER_WORDS, samples, 4, false, false, output, 3) == FALLOWCART_REFUSED_FILTER_OUTPUT);
     HOLDS(fallowcart_filter_reset(state, FALLOWCART_FILTER_WORDS) == 0);
     HOLDS(fallowcart_filter_bias(state, FALLOWCART_FILTER_WORDS) == 0);
-    HOLDS(fallowcart_filter_open(80.0f, 16000, 0.5f, true, true, true, pass, 9, state, FALLOWCART_FILTER_WORDS) == 24);
+    HOLDS(fallowcart_filter_open(80.0f, 16000, 0.5f, true, true, true, pass, 9, state, FALLOWCART_FILTER_WORDS) == FALLOWCART_REFUSED_FILTER_COEFFICIENT);
 }
 
 static void arithmetic(void) {

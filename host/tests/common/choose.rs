@@ -1,6 +1,6 @@
 //! Choices at random.
 
-use crate::random::Random;
+use super::random::Random;
 
 impl Random {
     /// A whole number from low to high, both included.
@@ -10,6 +10,11 @@ impl Random {
 
     pub fn one_in(&mut self, many: u64) -> bool {
         self.word().is_multiple_of(many)
+    }
+
+    /// From 0 to below 1.
+    pub fn share(&mut self) -> f32 {
+        (self.word() >> 40) as f32 / 16_777_216.0
     }
 
     /// One of these.

@@ -14,7 +14,7 @@ const THREADS: usize = 2;
 static ALONE: Mutex<()> = Mutex::new(());
 
 /// Does the blocks 0..blocks on two threads, each with a tally of its own, and adds the tallies up.
-pub fn long<T: AddAssign + Default + Send>(
+pub fn long<T: for<'a> AddAssign<&'a T> + Default + Send>(
     name: &str,
     blocks: u64,
     work: impl Fn(&mut T, u64) + Sync,
@@ -52,7 +52,7 @@ pub fn long<T: AddAssign + Default + Send>(
             .map(|n| scope.spawn(move || thread(n == 0)))
             .collect();
         for thread in threads {
-            total += thread.join().unwrap_or_else(|panic| resume_unwind(panic));
+            total += &thread.join().unwrap_or_else(|panic| resume_unwind(panic));
         }
     });
     (total, start.elapsed())

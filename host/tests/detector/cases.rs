@@ -4,13 +4,8 @@ use std::time::Duration;
 
 use fallowcart::VadConfig;
 
-use crate::random::Random;
-
-/// The largest magnitude of a sample.
-pub const FULL: f32 = 65_536.0;
-
-/// The longest block.
-pub const LONGEST: usize = 1_024;
+use crate::common::random::Random;
+use crate::common::{FULL, LONGEST};
 
 /// The float before.
 fn before(x: f32) -> f32 {
@@ -18,17 +13,12 @@ fn before(x: f32) -> f32 {
 }
 
 impl Random {
-    /// From 0 to below 1.
-    pub fn share(&mut self) -> f32 {
-        (self.word() >> 40) as f32 / 16_777_216.0
-    }
-
     /// A power of two, times something from 1 to below 2.
     fn magnitude(&mut self, low: i32, high: i32) -> f32 {
         ((1.0 + f64::from(self.share())) * 2f64.powi(self.within(low, high))) as f32
     }
 
-    fn rate(&mut self) -> u32 {
+    fn detector_rate(&mut self) -> u32 {
         match self.within(0, 3) {
             0 => self.within(8_000, 48_000) as u32,
             1 => self.pick(&[8_000, 48_000]),
@@ -56,9 +46,9 @@ impl Random {
     }
 
     /// Settings that the library accepts, at the limits of each or inside them.
-    pub fn config(&mut self) -> VadConfig {
+    pub fn detector_config(&mut self) -> VadConfig {
         loop {
-            let rate = self.rate();
+            let rate = self.detector_rate();
             let (frame, hop) = self.lengths(rate);
             let nanos = u64::from(frame) * 1_000_000_000 / u64::from(rate) + self.word() % 3;
             let release_ratio = match self.within(0, 7) {
@@ -118,7 +108,7 @@ impl Random {
                     0 => self.pick(&[10_000, 9_999, 300]),
                     _ => self.within(1, 6) as usize,
                 },
-                stream_start_time: self.start(),
+                stream_start_time: self.detector_start(),
             };
             // Half of the settings find speech in most sounds.
             let config = if self.one_in(2) {
@@ -140,7 +130,7 @@ impl Random {
         }
     }
 
-    pub fn start(&mut self) -> u64 {
+    pub fn detector_start(&mut self) -> u64 {
         match self.within(0, 3) {
             0 => 0,
             1 => (1 << 63) - 1,
@@ -149,7 +139,7 @@ impl Random {
     }
 
     /// A value that no sample may have.
-    pub fn bad_sample(&mut self) -> f32 {
+    pub fn detector_bad_sample(&mut self) -> f32 {
         let beyond = f32::from_bits(FULL.to_bits() + 1);
         match self.within(0, 3) {
             0 => f32::NAN,

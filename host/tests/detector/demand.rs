@@ -3,9 +3,11 @@
 use std::collections::VecDeque;
 
 use fallowcart::VadConfig;
+use fallowcart::layout::{ROW_FIELDS, row};
 
-use crate::detector_for_original::{for_original, padding_samples, warmup_frames};
-use crate::memory::{Memory, Readings};
+use super::memory::{Memory, Readings};
+use crate::common::for_original::ForOriginal;
+use crate::common::original::{padding_samples, warmup_frames};
 
 /// What was seen since the opening or the latest reset. The lengths are the original's, and no number of the port's state is asked for them.
 pub struct Demand {
@@ -28,7 +30,7 @@ pub struct Demand {
 
 impl Demand {
     pub fn new(config: &VadConfig) -> Demand {
-        let original = for_original(config);
+        let original = config.for_original();
         let hop = original.hop_length_samples().expect("accepted");
         Demand {
             hangover: config.hangover_frames as u64,
@@ -52,12 +54,12 @@ impl Demand {
         memory: &Memory,
         readings: &Readings,
         block: Option<usize>,
-        rows: &[[u64; 7]],
+        rows: &[[u64; ROW_FIELDS]],
     ) {
         self.received += block.unwrap_or(0) as u64;
         self.flushed |= block.is_none();
-        for row in rows {
-            let (start, end) = (row[0], row[1]);
+        for fields in rows {
+            let (start, end) = (fields[row::START_SAMPLE], fields[row::END_SAMPLE]);
             assert!(self.end <= start, "rows in order, never overlapping");
             assert!(start < end, "a row has sound");
             assert!(end <= self.received, "within the sound received");

@@ -1,18 +1,16 @@
 //! A detector in memory of the test's own, reached only through the C door.
 
-use fallowcart::{DetectorState, VadConfig, raw};
-
-pub const NUMBERS: usize = DetectorState::NUMBERS;
-pub const FLOATS: usize = DetectorState::FLOATS;
-
-/// Numbers of a row.
-pub const ROW: usize = 7;
+use fallowcart::layout::{FLOATS, LONGEST_FRAME, LONGEST_WARMUP, NUMBERS, float, number};
+use fallowcart::{VadConfig, raw};
 
 #[derive(Clone)]
 pub struct Memory {
     pub numbers: Vec<u64>,
     pub floats: Vec<f32>,
 }
+
+/// A reading of the door.
+pub type Reading = fn(&[u64], &[f32]) -> u64;
 
 /// What the six readings answer.
 pub struct Readings {
@@ -41,8 +39,21 @@ impl Memory {
         }
     }
 
+    pub fn zeros() -> Memory {
+        Memory {
+            numbers: vec![0; NUMBERS],
+            floats: vec![0.0; FLOATS],
+        }
+    }
+
     pub fn open(&mut self, config: &VadConfig, window: &[f32], rise: f32) -> u64 {
-        raw::vad_open(config, window, rise, &mut self.numbers, &mut self.floats)
+        raw::vad_open(
+            &(*config).into(),
+            window,
+            rise,
+            &mut self.numbers,
+            &mut self.floats,
+        )
     }
 
     pub fn detect(&mut self, samples: &[f32], rows: &mut [u64]) -> u64 {
@@ -59,7 +70,7 @@ impl Memory {
 
     /// All that can be read of a sound state.
     pub fn readings(&self) -> Readings {
-        let read = |reading: fn(&[u64], &[f32]) -> u64| {
+        let read = |reading: Reading| {
             let (refusal, value) = unpacked(reading(&self.numbers, &self.floats));
             assert_eq!(refusal, 0, "a reading");
             value
@@ -105,23 +116,30 @@ impl Memory {
 
     /// Whether zeros stand past the window, the carry and the energies held.
     pub fn zeros_past(&self) -> bool {
-        let [frame, carry, held] = [7, 11, 15].map(|place| self.numbers[place] as usize);
-        let parts = [frame..2_048, 2_048 + carry..4_096, 4_096 + held..4_396];
+        let arrays = [
+            (float::WINDOW, number::FRAME_LENGTH, LONGEST_FRAME),
+            (float::CARRY, number::CARRY_LEN, LONGEST_FRAME),
+            (float::WARMUP, number::HELD, LONGEST_WARMUP),
+        ];
+        let parts = arrays.map(|(at, used, length)| {
+            let used = self.numbers[used] as usize;
+            at + used..at + length
+        });
         parts
             .into_iter()
             .all(|part| self.floats[part].iter().all(|x| x.to_bits() == 0))
     }
 
     pub fn received(&self) -> u64 {
-        self.numbers[13]
+        self.numbers[number::PROCESSED_SAMPLES]
     }
 
     pub fn warming(&self) -> bool {
-        self.numbers[14] == 1
+        self.numbers[number::WARMING] == 1
     }
 
     /// Frames, loud and quiet ones, and rows of the latest call that was not refused.
     pub fn counted(&self) -> [u64; 4] {
-        std::array::from_fn(|n| self.numbers[25 + n])
+        [number::FRAMES, number::LOUD, number::QUIET, number::ROWS].map(|place| self.numbers[place])
     }
 }

@@ -5,13 +5,8 @@ use std::sync::LazyLock;
 
 use fallowcart::{HighpassOrder, PreprocessingConfig};
 
-use crate::random::Random;
-
-/// The largest magnitude of a sample.
-pub const FULL: f32 = 65_536.0;
-
-/// The longest block.
-pub const LONGEST: usize = 1_024;
+use crate::common::random::Random;
+use crate::common::{FULL, LONGEST};
 
 pub const COMMON_RATES: [u32; 8] = [
     8_000, 11_025, 16_000, 22_050, 24_000, 32_000, 44_100, 48_000,
@@ -66,7 +61,7 @@ impl Random {
     }
 
     /// Settings that 20 to 23 accept.
-    pub fn config(&mut self) -> PreprocessingConfig {
+    pub fn filter_config(&mut self) -> PreprocessingConfig {
         let rate = match self.within(0, 2) {
             0 => self.within(8_000, 48_000) as u32,
             _ => self.pick(&COMMON_RATES),
@@ -94,7 +89,7 @@ impl Random {
     }
 
     /// A value that no sample may have.
-    pub fn bad_sample(&mut self) -> f32 {
+    pub fn filter_bad_sample(&mut self) -> f32 {
         let beyond = f32::from_bits(FULL.to_bits() + 1);
         match self.within(0, 5) {
             0 => f32::NAN,

@@ -2,17 +2,23 @@
 //!
 //! The original keeps its memory to itself and takes no coefficients. This judge takes any state, as words; the runs hold it to the original.
 
+use std::ops::Range;
+
+use fallowcart::layout::{filter, stage};
 use fallowcart::{Filter, HighpassOrder, PreprocessingConfig};
 
 pub type State = [u32; Filter::STATE_WORDS];
 
-/// Where the words are: the flags, the stages and, in each, coefficients before memory, and the bias.
-pub const REMOVAL: usize = 3;
-pub const HIGHPASS: usize = 4;
-pub const ORDER: usize = 5;
-pub const STAGES: [usize; 2] = [6, 15];
-pub const MEMORY: usize = 5;
-pub const BIAS: usize = 24;
+/// Where the stages are, and in each what it remembers.
+pub const STAGES: [usize; 2] = [filter::FIRST_STAGE, filter::SECOND_STAGE];
+pub const MEMORY: Range<usize> = stage::X1..stage::LENGTH;
+
+/// The words that are 0 or 1.
+pub const FLAGS: [usize; 3] = [
+    filter::ENABLE_DC_REMOVAL,
+    filter::ENABLE_HIGHPASS,
+    filter::FOURTH_ORDER,
+];
 
 /// The ranges of b0, b1, b2, a1, a2.
 pub const RANGES: [(f32, f32); 5] = [
@@ -61,14 +67,14 @@ pub fn opening(config: PreprocessingConfig, coefficients: [[f32; 5]; 2]) -> u64 
 /// The state after opening.
 pub fn opened(config: PreprocessingConfig, coefficients: [[f32; 5]; 2]) -> State {
     let mut state = [0; Filter::STATE_WORDS];
-    state[0] = config.highpass_cutoff_hz.to_bits();
-    state[1] = config.sample_rate_hz;
-    state[2] = config.dc_bias_alpha.to_bits();
-    state[REMOVAL] = u32::from(config.enable_dc_removal);
-    state[HIGHPASS] = u32::from(config.enable_highpass);
-    state[ORDER] = u32::from(config.highpass_order == HighpassOrder::FourthOrder);
-    for (at, stage) in STAGES.into_iter().zip(coefficients) {
-        state[at..at + 5].copy_from_slice(&stage.map(f32::to_bits));
+    state[filter::HIGHPASS_CUTOFF_HZ] = config.highpass_cutoff_hz.to_bits();
+    state[filter::SAMPLE_RATE_HZ] = config.sample_rate_hz;
+    state[filter::DC_BIAS_ALPHA] = config.dc_bias_alpha.to_bits();
+    state[filter::ENABLE_DC_REMOVAL] = u32::from(config.enable_dc_removal);
+    state[filter::ENABLE_HIGHPASS] = u32::from(config.enable_highpass);
+    state[filter::FOURTH_ORDER] = u32::from(config.highpass_order == HighpassOrder::FourthOrder);
+    for (at, coefficients) in STAGES.into_iter().zip(coefficients) {
+        state[at..][..stage::X1].copy_from_slice(&coefficients.map(f32::to_bits));
     }
     state
 }
@@ -81,25 +87,25 @@ fn floats<const N: usize>(state: &State, at: usize) -> [f32; N] {
 pub fn remembered() -> impl Iterator<Item = usize> {
     STAGES
         .into_iter()
-        .flat_map(|at| at + MEMORY..at + MEMORY + 4)
-        .chain([BIAS])
+        .flat_map(|at| MEMORY.map(move |n| at + n))
+        .chain([filter::BIAS])
 }
 
 /// Refusal 27's words.
 pub fn malformed(state: &State) -> bool {
     let config = PreprocessingConfig {
-        highpass_cutoff_hz: f32::from_bits(state[0]),
-        sample_rate_hz: state[1],
-        dc_bias_alpha: f32::from_bits(state[2]),
-        enable_dc_removal: state[REMOVAL] == 1,
-        enable_highpass: state[HIGHPASS] == 1,
-        highpass_order: match state[ORDER] {
+        highpass_cutoff_hz: f32::from_bits(state[filter::HIGHPASS_CUTOFF_HZ]),
+        sample_rate_hz: state[filter::SAMPLE_RATE_HZ],
+        dc_bias_alpha: f32::from_bits(state[filter::DC_BIAS_ALPHA]),
+        enable_dc_removal: state[filter::ENABLE_DC_REMOVAL] == 1,
+        enable_highpass: state[filter::ENABLE_HIGHPASS] == 1,
+        highpass_order: match state[filter::FOURTH_ORDER] {
             0 => HighpassOrder::SecondOrder,
             _ => HighpassOrder::FourthOrder,
         },
     };
     let coefficients = STAGES.map(|at| floats(state, at));
-    state[REMOVAL..=ORDER].iter().any(|&flag| flag > 1)
+    FLAGS.into_iter().any(|at| state[at] > 1)
         || opening(config, coefficients) != 0
         || remembered().any(|at| !f32::from_bits(state[at]).is_finite())
 }
@@ -135,16 +141,16 @@ pub struct Processed {
 
 /// A block of samples that are in the domain, from a state that is not malformed.
 pub fn process(mut state: State, samples: &[f32], is_silence: Option<bool>) -> Processed {
-    let [alpha] = floats(&state, 2);
-    let [mut bias] = floats(&state, BIAS);
-    let removal = state[REMOVAL] == 1;
+    let [alpha] = floats(&state, filter::DC_BIAS_ALPHA);
+    let [mut bias] = floats(&state, filter::BIAS);
+    let removal = state[filter::ENABLE_DC_REMOVAL] == 1;
     if removal && is_silence != Some(false) && !samples.is_empty() {
         // Rust's sum of floats starts from -0.
         let sum = samples.iter().fold(-0.0, |sum: f32, sample| sum + sample);
         bias = alpha.mul_add(bias, (1.0 - alpha) * (sum / samples.len() as f32));
-        state[BIAS] = bias.to_bits();
+        state[filter::BIAS] = bias.to_bits();
     }
-    let stages = match (state[HIGHPASS], state[ORDER]) {
+    let stages = match (state[filter::ENABLE_HIGHPASS], state[filter::FOURTH_ORDER]) {
         (0, _) => 0,
         (_, order) => 1 + order as usize,
     };
@@ -171,7 +177,7 @@ pub fn process(mut state: State, samples: &[f32], is_silence: Option<bool>) -> P
             let found = operations.iter().find(|(result, _)| !result.is_finite());
             overflow = overflow.or(found.map(|&(_, operation)| (stage, operation)));
             let memory = [input, x1, next, y1].map(f32::to_bits);
-            state[at + MEMORY..at + MEMORY + 4].copy_from_slice(&memory);
+            state[at..][MEMORY].copy_from_slice(&memory);
         }
         if let Some((stage, operation)) = overflow {
             let end = Err(Overflow {

@@ -1,6 +1,6 @@
 //! Operands that are hard for a fused multiply-add, by family, and the list of special patterns.
 
-use crate::random::Random;
+use crate::common::random::Random;
 
 impl Random {
     fn sign(&mut self) -> u32 {

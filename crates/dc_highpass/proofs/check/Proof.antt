@@ -3,6 +3,7 @@ use Prim.Native.Nat.{_<_, _≤_}
 use lib.ListN.{length}
 use mathlib.Core.Path.{sym, _∙_}
 use borrow.Author.Tests.{not-true, not-false, lt-ltb, le-ltb}
+use Rattle.refusals.specs.Refusals.{firstOf}
 use Rattle.ranges.specs.Ranges.{cleanOf}
 use Rattle.dc_highpass.specs.Filter.{checkOf}
 use borrow.Author.Needs.{needs}
@@ -13,15 +14,15 @@ sound-requires : tie.Need-sound-requires
 sound-requires c κs = search needs
 
 returns : tie.Need-returns
-unfolding checkOf
+unfolding checkOf firstOf
 returns c = simp (sym (c .before .sound .ensures) ∙ not-true _ (c .if1 .taken))
 
 returns-2 : tie.Need-returns-2
-unfolding checkOf
+unfolding checkOf firstOf
 returns-2 c = simp (sym (c .before .before .sound .ensures) ∙ not-false _ (c .before .if1 .left), lt-ltb _ _ (c .if2 .taken))
 
 returns-3 : tie.Need-returns-3
-unfolding checkOf
+unfolding checkOf firstOf
 returns-3 c =
     let args = c .before .before .before .before .before .args in
     let few : args .room < length (args .samples .now) = (let t = c .if3 .taken in omega arith) in
@@ -31,7 +32,7 @@ clean-requires : tie.Need-clean-requires
 clean-requires c κs = search needs
 
 returns-4 : tie.Need-returns-4
-unfolding checkOf
+unfolding checkOf firstOf
 returns-4 c =
     let r = c .before .before in
     let xs = r .before .before .before .before .before .args .samples .now in
@@ -46,7 +47,7 @@ returns-4 c =
     )
 
 returns-5 : tie.Need-returns-5
-unfolding checkOf
+unfolding checkOf firstOf
 returns-5 c =
     let r = c .before .before in
     let xs = r .before .before .before .before .before .args .samples .now in

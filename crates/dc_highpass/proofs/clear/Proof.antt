@@ -3,14 +3,14 @@ use Prim.Native.Nat.{_≤_, _-_}
 use native.Mathlib.Omega.{arith}
 use lib.ListN.{length, set, replicate, length-set}
 use lib.Seq.{sets}
-use lib.Ieee.{binary32, ofBits}
+use Rattle.float.specs.Numbers.{zero32}
 use borrow.Author.Needs.{needs}
-use Rattle.lists.specs.Stores.{clear-step, clear-end}
+use Rattle.lists.proofs.Stores.{clear-step, clear-end}
 use Rattle.dc_highpass.proofs.clear.Statement.{statement}
 use Rattle.dc_highpass.proofs.clear.Tie as tie
 
 abbrev Inv-loop : tie.InvT-loop
-Inv-loop output₀ from end i₀ output i = (from ≤ i) × (i ≤ end) × (length output ≡ length output₀) × (sets output i (replicate (end - i) (ofBits binary32 0)) ≡ sets output₀ from (replicate (end - from) (ofBits binary32 0)))
+Inv-loop output₀ from end i₀ output i = (from ≤ i) × (i ≤ end) × (length output ≡ length output₀) × (sets output i (replicate (end - i) zero32) ≡ sets output₀ from (replicate (end - from) zero32))
 
 abbrev μ-loop : tie.MeasureT-loop
 μ-loop output₀ from end i₀ output i = end - i
@@ -35,18 +35,18 @@ loop-again c =
     let l = c .before in
     let i = l .loop .i in
     let end = l .before .args .end in
-    let long : length (set (l .loop .output) i (ofBits binary32 0)) ≡ length (l .loop .output) = simp length-set in (
+    let long : length (set (l .loop .output) i zero32) ≡ length (l .loop .output) = simp length-set in (
       omega arith,
       omega arith,
       long ∙ l .loop .inv .2,
-      clear-step (l .loop .output) i end (ofBits binary32 0) (c .loop-test .taken) ∙ l .loop .inv .3,
+      clear-step (l .loop .output) i end zero32 (c .loop-test .taken) ∙ l .loop .inv .3,
     )
 
 same-length : tie.Need-same-length Inv-loop μ-loop
 same-length c = search needs
 
 returns : tie.Need-returns Inv-loop μ-loop
-returns c = let l = c .before in sym (clear-end (l .loop .output) (l .loop .i) (l .before .args .end) (ofBits binary32 0) (c .loop-test .left)) ∙ l .loop .inv .3
+returns c = let l = c .before in sym (clear-end (l .loop .output) (l .loop .i) (l .before .args .end) zero32 (c .loop-test .left)) ∙ l .loop .inv .3
 
 pub clear-spec : {M : Type 1} → statement M
 clear-spec =

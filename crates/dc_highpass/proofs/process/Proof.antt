@@ -2,7 +2,7 @@ use mathlib.Core.Path.{_≡_, sym, ap, _∙_}
 use lib.ListN.{length}
 use borrow.Author.Needs.{needs}
 use Rattle.dc_highpass.specs.Filter.{checkOf}
-use Rattle.dc_highpass.specs.declared.Refusal.{Refusal}
+use Rattle.refusals.specs.declared.Refusal.{Refusal}
 use Rattle.dc_highpass.proofs.Calls.{checked, answer-refused, answer-ran, output-refused, output-ran}
 use Rattle.dc_highpass.proofs.process.Statement.{statement}
 use Rattle.dc_highpass.proofs.process.Tie as tie

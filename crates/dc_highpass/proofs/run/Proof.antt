@@ -4,7 +4,7 @@ use native.Mathlib.Omega.{arith}
 use lib.ListN.{length, drop, set, getD, length-set}
 use lib.Ieee.{nan}
 use lib.Seq.{sets}
-use Rattle.lists.specs.Stores.{sets-cons}
+use Rattle.lists.proofs.Stores.{sets-cons}
 use borrow.Author.Needs.{needs}
 use borrow.Author.Tests.{not-true, not-false}
 use Rattle.dc_highpass.specs.Filter.{passOf, resultsOf, afterOf}

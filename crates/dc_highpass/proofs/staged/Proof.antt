@@ -1,4 +1,5 @@
-use Rattle.dc_highpass.specs.Filter.{passedOf, stagedBy}
+use Rattle.dc_highpass.specs.Filter.{stagedBy}
+use Rattle.dc_highpass.specs.Inside.{passedOf}
 use borrow.Author.Needs.{needs}
 use Rattle.dc_highpass.proofs.staged.Statement.{statement}
 use Rattle.dc_highpass.proofs.staged.Tie as tie

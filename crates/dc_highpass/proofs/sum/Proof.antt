@@ -1,7 +1,8 @@
 use mathlib.Core.Path.{_≡_, sym, _∙_}
 use Prim.Native.Nat.{_≤_, _-_}
 use lib.ListN.{length, drop}
-use lib.Ieee.{binary32, ofBits, neg}
+use lib.Ieee.{neg}
+use Rattle.float.specs.Numbers.{zero32}
 use borrow.Author.Needs.{needs}
 use Rattle.dc_highpass.specs.Filter.{sumFrom}
 use Rattle.dc_highpass.proofs.Turns.{sum-step, sum-end}
@@ -9,7 +10,7 @@ use Rattle.dc_highpass.proofs.sum.Statement.{statement}
 use Rattle.dc_highpass.proofs.sum.Tie as tie
 
 abbrev Inv-loop : tie.InvT-loop
-Inv-loop samples total₀ i₀ total i = (i ≤ length samples) × (sumFrom total (drop i samples) ≡ sumFrom (neg (ofBits binary32 0)) samples)
+Inv-loop samples total₀ i₀ total i = (i ≤ length samples) × (sumFrom total (drop i samples) ≡ sumFrom (neg zero32) samples)
 
 abbrev μ-loop : tie.MeasureT-loop
 μ-loop samples total₀ i₀ total i = length samples - i

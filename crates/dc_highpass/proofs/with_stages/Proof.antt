@@ -1,5 +1,5 @@
 use mathlib.Core.Path.{refl}
-use Rattle.dc_highpass.specs.Filter.{passedOf}
+use Rattle.dc_highpass.specs.Inside.{passedOf}
 use Rattle.dc_highpass.proofs.with_stages.Statement.{statement}
 use Rattle.dc_highpass.proofs.with_stages.Tie as tie
 

@@ -5,7 +5,7 @@ use lib.ListN.{length, take}
 use lib.Seq.{sets, length-take-le}
 use lib.Ieee.{Float}
 use Rattle.vad_frames.specs.Grid.{energiesOf, framedOf}
-use Rattle.lists.specs.Stores.{from-start}
+use Rattle.lists.proofs.Stores.{from-start}
 use borrow.Author.Needs.{needs}
 use Rattle.vad_call.proofs.frame_values.Statement.{statement}
 use Rattle.vad_call.proofs.frame_values.Tie as tie

@@ -1,4 +1,3 @@
-use Rattle.vad_state.specs.Kept.{wholeOf}
 use Rattle.vad_state.specs.State.{windowOf}
 use Rattle.vad_call.specs.Calls.{joinedOf}
 use borrow.Author.Needs.{needs}
@@ -15,7 +14,7 @@ fill-warmup-requires : tie.Need-fill-warmup-requires
 fill-warmup-requires c κs = search needs
 
 returns : tie.Need-returns
-unfolding joinedOf wholeOf windowOf
+unfolding joinedOf windowOf
 returns c = rw (c .before .before .before .before .clear-past .ensures, c .before .before .fill .ensures, c .fill-warmup .ensures)
 
 pub joined-spec : {M : Type 1} → statement M

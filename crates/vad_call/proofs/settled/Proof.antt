@@ -2,6 +2,8 @@ use mathlib.Core.Path.{_≡_}
 use Prim.Native.Nat.{_+_, _-_, _≤_}
 use native.Mathlib.Omega.{arith}
 use lib.ListN.{drop, length-take}
+use Rattle.vad_call.specs.Calls.{valuesMost}
+use Rattle.ranges.specs.Sizes.{frameMost, warmupMost}
 use Rattle.vad_call.proofs.Calls.{settled-refused, settled-accepted}
 use borrow.Author.Needs.{needs}
 use Rattle.vad_call.proofs.settled.Statement.{statement}
@@ -11,7 +13,7 @@ use Rattle.vad_call.proofs.settled.Tie as tie
 zero : (k : tie.Else1) → k .before .before .before .before .before .before .before .args .heard .refusal .number ≡ 0
 zero k = omega (arith, k .if1 .left)
 
-fits : (k : tie.Else1) → let h = k .before .before .before .before .before .before .before .args .heard in (h .consumed + h .kept .«carry_len» ≤ 3072) × (h .kept .«carry_len» ≤ 2048) × (h .kept .held ≤ 300)
+fits : (k : tie.Else1) → let h = k .before .before .before .before .before .before .before .args .heard in (h .consumed + h .kept .stream .«carry_len» ≤ valuesMost) × (h .kept .stream .«carry_len» ≤ frameMost) × (h .kept .desk .held ≤ warmupMost)
 fits k = k .before .before .before .before .before .before .before .pre .1 (zero k)
 
 returns : tie.Need-returns
@@ -56,8 +58,8 @@ joined-requires c κs =
     let h = s .args .heard in
     let short = fits (c .before .before .before) .1 in
     let few = fits (c .before .before .before) .2 in
-    let carry = length-take (h .consumed + h .kept .«carry_len» - h .consumed) (drop (h .consumed) (s .args .values .now)) in
-    let held = length-take (h .kept .held - 0) (s .args .energies .now) in
+    let carry = length-take (h .consumed + h .kept .stream .«carry_len» - h .consumed) (drop (h .consumed) (s .args .values .now)) in
+    let held = length-take (h .kept .desk .held - 0) (s .args .energies .now) in
     (s .pre .0 .0, omega arith, omega arith)
 
 returns-2 : tie.Need-returns-2

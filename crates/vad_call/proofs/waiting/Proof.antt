@@ -4,10 +4,10 @@ use Rattle.vad_call.proofs.waiting.Statement.{statement}
 use Rattle.vad_call.proofs.waiting.Tie as tie
 
 returns : tie.Need-returns
-returns c = let on : c .before .args .kept .warming ≡ true = c .if1 .taken in simp on
+returns c = let on : c .before .args .kept .desk .warming ≡ true = c .if1 .taken in simp on
 
 returns-2 : tie.Need-returns-2
-returns-2 c = let off : c .before .args .kept .warming ≡ false = c .if1 .left in simp off
+returns-2 c = let off : c .before .args .kept .desk .warming ≡ false = c .if1 .left in simp off
 
 pub waiting-spec : {M : Type 1} → statement M
 waiting-spec = tie.close (tie.spec returns returns-2)

@@ -4,7 +4,7 @@ use native.Mathlib.Omega.{arith}
 use lib.ListN.{length, getD}
 use lib.Seq.{sets}
 use lib.Ieee.{nan}
-use Rattle.vad_segments.specs.Closing.{flat}
+use Rattle.vad_row.specs.Rows.{flat}
 use Rattle.vad_segments.specs.Judging.{frameAt, judgedOf, trackAfter, rowsOf}
 use Rattle.vad_segments.proofs.Rooms.{Roomy, roomy-within, roomy-next}
 use Rattle.vad_classify.proofs.Turns.{restAt, track-step, width-step, sets-step, track-end, flat-end}

@@ -2,7 +2,7 @@ use mathlib.Core.Path.{_≡_, refl}
 use Prim.Native.Nat.{_+_, _≤_}
 use native.Mathlib.Omega.{arith}
 use lib.ListN.{length}
-use Rattle.vad_segments.specs.Closing.{reported, flat}
+use Rattle.vad_row.specs.Rows.{reported, flat}
 use Rattle.vad_segments.specs.Judging.{framesAt}
 use Rattle.vad_segments.proofs.Rooms.{track-within}
 use Rattle.vad_classify.proofs.Calls.{call-width, call-written}

@@ -2,10 +2,12 @@ use mathlib.Core.Path.{_≡_}
 use mathlib.Core.Bool.{true}
 use native.Mathlib.Omega.{arith}
 use borrow.Author.Needs.{needs}
-use Rattle.vad_config.specs.Domain.{rateIn, durationIn}
+use Rattle.ranges.specs.Ranges.{rateIn}
+use Rattle.vad_config.specs.Domain.{durationIn}
 use Rattle.vad_config.specs.Lengths.{frameLength, frameLengthOf}
-use Rattle.vad_config.proofs.First.{allowed, refused}
-use Rattle.vad_config.proofs.Ranges.{rate-in, duration-in, samples-fit}
+use Rattle.refusals.proofs.First.{allowed, refused}
+use Rattle.ranges.proofs.Laws.{rate-in}
+use Rattle.vad_config.proofs.Ranges.{duration-in, samples-fit}
 use Rattle.vad_config.proofs.frame_length_samples.Statement.{statement}
 use Rattle.vad_config.proofs.frame_length_samples.Tie as tie
 

@@ -4,10 +4,12 @@ use Prim.Native.Nat.{_/_, _≤_}
 use native.Mathlib.Omega.{arith}
 use borrow.Author.Tests.{le-leb, lt-leb}
 use borrow.Author.Needs.{needs}
-use Rattle.vad_config.specs.Domain.{rateIn, startIn, receivedIn}
+use Rattle.ranges.specs.Ranges.{rateIn}
+use Rattle.vad_config.specs.Domain.{startIn, receivedIn}
 use Rattle.vad_config.specs.Lengths.{timeOf, timeOfSampleOf}
-use Rattle.vad_config.proofs.First.{allowed, refused}
-use Rattle.vad_config.proofs.Ranges.{rate-in, start-in, rest-fits, seconds-fit, time-held, time-split}
+use Rattle.refusals.proofs.First.{allowed, refused}
+use Rattle.ranges.proofs.Laws.{rate-in}
+use Rattle.vad_config.proofs.Ranges.{start-in, rest-fits, seconds-fit, time-held, time-split}
 use Rattle.vad_config.proofs.time_of_sample.Statement.{statement}
 use Rattle.vad_config.proofs.time_of_sample.Tie as tie
 

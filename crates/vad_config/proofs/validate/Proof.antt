@@ -2,7 +2,8 @@ use mathlib.Core.Path.{sym, _∙_}
 use borrow.Author.Needs.{needs}
 use Rattle.vad_config.specs.Settings.{framingRefusals, levelRefusals, limitRefusals, refusalOf}
 use mathlib.Core.List.{_++_}
-use Rattle.vad_config.proofs.First.{first-found, after-framing, after-levels}
+use Rattle.refusals.proofs.First.{first-found, number-of}
+use Rattle.vad_config.proofs.First.{after-framing, after-levels}
 use Rattle.vad_config.proofs.validate.Statement.{statement}
 use Rattle.vad_config.proofs.validate.Tie as tie
 
@@ -14,7 +15,7 @@ unfolding refusalOf
 returns c =
     let k = c .before .before .args .config in
     let e = c .before .framing .ensures in
-    e ∙ sym (first-found 1 (framingRefusals k) (levelRefusals k ++ limitRefusals k) (λ z. c .if1 .taken (e ∙ z)))
+    e ∙ number-of (first-found (framingRefusals k) (levelRefusals k ++ limitRefusals k) (λ z. c .if1 .taken (e ∙ z)))
 
 levels-requires : tie.Need-levels-requires
 levels-requires c κs = search needs
@@ -23,7 +24,7 @@ returns-2 : tie.Need-returns-2
 returns-2 c =
     let k = c .before .before .before .before .args .config in
     let e = c .before .levels .ensures in
-    e ∙ sym (after-framing k (sym (c .before .before .before .framing .ensures) ∙ c .before .before .if1 .left) ∙ first-found 5 (levelRefusals k) (limitRefusals k) (λ z. c .if2 .taken (e ∙ z)))
+    e ∙ number-of (first-found (levelRefusals k) (limitRefusals k) (λ z. c .if2 .taken (e ∙ z))) ∙ sym (after-framing k (sym (c .before .before .before .framing .ensures) ∙ c .before .before .if1 .left))
 
 limits-requires : tie.Need-limits-requires
 limits-requires c κs = search needs

@@ -12,7 +12,7 @@ open-start-requires c κs = search needs
 
 returns : tie.Need-returns
 unfolding segmentRead
-returns c = simp (sym (c .before .before .before .sound .ensures) ∙ c .before .before .if1 .taken, c .open-start .ensures)
+returns c = simp (sym (c .before .before .before .before .before .sound .ensures) ∙ c .before .before .before .before .if1 .taken, c .open-start .ensures)
 
 returns-2 : tie.Need-returns-2
 unfolding segmentRead

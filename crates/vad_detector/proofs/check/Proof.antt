@@ -1,30 +1,27 @@
 use mathlib.Core.Path.{_≡_, sym, _∙_}
-use mathlib.Core.Bool.{true}
-use native.Mathlib.Omega.{arith}
-use borrow.Author.Tests.{not-true, not-false}
-use Rattle.vad_state.specs.State.{soundOf}
-use Rattle.vad_detector.specs.Entries.{checkOf}
-use Rattle.vad_state.proofs.Parts.{parts}
+use lib.ListN.{length}
+use Rattle.lists.proofs.Every.{length-map}
+use Rattle.ranges.specs.Sizes.{frameMost, warmupMost}
 use borrow.Author.Needs.{needs}
 use Rattle.vad_detector.proofs.check.Statement.{statement}
 use Rattle.vad_detector.proofs.check.Tie as tie
 
-sound : (k : tie.Else1) → soundOf (k .before .before .before .args .detector) ≡ true
-sound k = sym (k .before .sound .ensures) ∙ not-false _ (k .if1 .left)
+window-long : (s : tie.Start) → length (s .args .t1 .window) ≡ frameMost
+window-long s = sym (length-map _ (s .args .t1 .window)) ∙ s .good .0 .1 .1 .1 .0 .1 .0 .1
 
-sound-requires : tie.Need-sound-requires
-sound-requires c κs = search needs
+carry-long : (s : tie.Start) → length (s .args .t1 .carry) ≡ frameMost
+carry-long s = sym (length-map _ (s .args .t1 .carry)) ∙ s .good .0 .1 .1 .1 .1 .0 .1 .0 .1
+
+warmup-long : (s : tie.Start) → length (s .args .t1 .warmup) ≡ warmupMost
+warmup-long s = sym (length-map _ (s .args .t1 .warmup)) ∙ s .good .0 .1 .1 .1 .1 .1 .0 .1 .0 .1
+
+check-requires : tie.Need-check-requires
+check-requires c κs =
+    let s = c .before .before .before .before .before .before .before .before .before in
+    (window-long s, carry-long s, warmup-long s)
 
 returns : tie.Need-returns
-unfolding checkOf
-returns c = simp (sym (c .before .sound .ensures) ∙ not-true _ (c .if1 .taken))
-
-block-refusal-requires : tie.Need-block-refusal-requires
-block-refusal-requires c κs = let p = parts _ (sound c) in omega arith
-
-returns-2 : tie.Need-returns-2
-unfolding checkOf
-returns-2 c = simp (sound (c .before)) (c .block-refusal .ensures)
+returns c = c .check .ensures
 
 pub check-spec : {M : Type 1} → statement M
-check-spec = tie.close (tie.spec sound-requires returns block-refusal-requires returns-2)
+check-spec = tie.close (tie.spec check-requires returns)

@@ -1,7 +1,7 @@
 use mathlib.Core.Path.{sym, ap, _∙_}
 use borrow.Author.Needs.{needs}
 use lib.ListN.{length}
-use Rattle.vad_call.specs.declared.Refusal.{Refusal}
+use Rattle.refusals.specs.declared.Refusal.{Refusal}
 use Rattle.vad_detector.proofs.Answers.{Checked, checked, detect-refused, detect-ran, rows-kept, rows-written}
 use Rattle.vad_detector.proofs.detect.Statement.{statement}
 use Rattle.vad_detector.proofs.detect.Tie as tie

@@ -18,15 +18,15 @@ returns c = let s = c .before .before .before .args in refused-settings (s .conf
 lengths-of-requires : tie.Need-lengths-of-requires
 lengths-of-requires c κs = search needs
 
-handed-over-requires : tie.Need-handed-over-requires
-handed-over-requires c κs = search needs
+weights-fit-requires : tie.Need-weights-fit-requires
+weights-fit-requires c κs = search needs
 
 returns-2 : tie.Need-returns-2
 returns-2 c =
     let k = c .before .before .before in
     let s = k .before .before .before .args in
     let l = c .before .before .lengths-of in
-    let h = c .before .handed-over in
+    let h = c .before .weights-fit in
     refused-handed (s .config) (s .window .now) (s .speech-floor-rise) (accepted k) (l .result) (l .ensures) (h .result) (h .ensures) (not-true _ (c .if2 .taken))
 
 returns-3 : tie.Need-returns-3
@@ -34,8 +34,8 @@ returns-3 c =
     let k = c .before .before .before in
     let s = k .before .before .before .args in
     let l = c .before .before .lengths-of in
-    let h = c .before .handed-over in
+    let h = c .before .weights-fit in
     refused-none (s .config) (s .window .now) (s .speech-floor-rise) (accepted k) (l .result) (l .ensures) (h .result) (h .ensures) (not-false _ (c .if2 .left))
 
 pub opening-refusal-spec : {M : Type 1} → statement M
-opening-refusal-spec = tie.close (tie.spec validate-requires returns lengths-of-requires handed-over-requires returns-2 returns-3)
+opening-refusal-spec = tie.close (tie.spec validate-requires returns lengths-of-requires weights-fit-requires returns-2 returns-3)

@@ -3,8 +3,8 @@ use borrow.Author.Needs.{needs}
 use Rattle.vad_door.proofs.detect.Statement.{statement}
 use Rattle.vad_door.proofs.detect.Tie as tie
 
-hear-requires : tie.Need-hear-requires
-hear-requires c κs = search needs
+call-requires : tie.Need-call-requires
+call-requires c κs = search needs
 
 same-length : tie.Need-same-length
 same-length c = search needs
@@ -17,9 +17,9 @@ same-length-3 c = search needs
 
 returns : tie.Need-returns
 returns c =
-    let done = c .before .before .before .before .before .before .hear in
+    let done = c .before .before .before .before .before .before .call in
     let s = c .before .before .before .before .before .before .before .before .before .before .before .before .before .before .args in
     detect-ends (s .numbers .now) (s .floats .now) (s .samples .now) (s .rows .now) (done .result) (done .last .0) (done .last .1 .0) (done .last .1 .1 .1 .1 .0) (done .ensures)
 
 pub detect-spec : {M : Type 1} → statement M
-detect-spec = tie.close (tie.spec hear-requires same-length same-length-2 same-length-3 returns)
+detect-spec = tie.close (tie.spec call-requires same-length same-length-2 same-length-3 returns)

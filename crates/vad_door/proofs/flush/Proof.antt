@@ -3,17 +3,17 @@ use borrow.Author.Needs.{needs}
 use Rattle.vad_door.proofs.flush.Statement.{statement}
 use Rattle.vad_door.proofs.flush.Tie as tie
 
-sub-hear : tie.Need-sub-hear
-sub-hear c = search needs
+sub-call : tie.Need-sub-call
+sub-call c = search needs
 
-part-hear-start : tie.Need-part-hear-start
-part-hear-start c = search needs
+part-call-start : tie.Need-part-call-start
+part-call-start c = search needs
 
-part-hear-end : tie.Need-part-hear-end
-part-hear-end c = search needs
+part-call-end : tie.Need-part-call-end
+part-call-end c = search needs
 
-hear-requires : tie.Need-hear-requires
-hear-requires c κs = search needs
+call-requires : tie.Need-call-requires
+call-requires c κs = search needs
 
 same-length : tie.Need-same-length
 same-length c = search needs
@@ -26,7 +26,7 @@ same-length-3 c = search needs
 
 returns : tie.Need-returns
 returns c =
-    let done = c .before .before .before .before .before .before .hear in
+    let done = c .before .before .before .before .before .before .call in
     let s = c .before .before .before .before .before .before .before .before .before .before .before .before .before .before .before .args in
     flush-ends (s .numbers .now) (s .floats .now) (s .rows .now) (done .result) (done .last .0) (done .last .1 .0) (done .last .1 .1 .1 .1 .0) (done .ensures)
 
@@ -34,10 +34,10 @@ pub flush-spec : {M : Type 1} → statement M
 flush-spec =
     tie.close
     (tie.spec
-    sub-hear
-    part-hear-start
-    part-hear-end
-    hear-requires
+    sub-call
+    part-call-start
+    part-call-end
+    call-requires
     same-length
     same-length-2
     same-length-3

@@ -24,7 +24,7 @@ returns : tie.Need-returns
 returns c =
     let put = c .before .before .before .before .put-detector in
     let s = c .before .before .before .before .before .before .before .before .before .before .before .args in
-    (search needs, (put .ensures .0 ∙ ap (λ (t : Tally). numbersWritten (s .opened .detector) t (s .numbers .now)) (c .before .before .before .before .before .nothing-counted .ensures), put .ensures .1))
+    (search needs, (put .ensures .0 ∙ ap (λ (t : Tally). numbersWritten (s .opened .detector .kept) t (s .numbers .now)) (c .before .before .before .before .before .nothing-counted .ensures), put .ensures .1))
 
 pub put-opened-spec : {M : Type 1} → statement M
 put-opened-spec =

@@ -3,14 +3,15 @@ use mathlib.Core.Bool.{true}
 use native.Mathlib.Omega.{arith}
 use borrow.Author.Tests.{not-true, not-false}
 use Rattle.vad_memory.specs.DetectorState.{readable}
-use Rattle.vad_door.specs.DetectorDoor.{restarted}
+use Rattle.vad_detector.specs.Run.{Reset}
+use Rattle.vad_door.specs.DetectorDoor.{answered}
 use Rattle.vad_door.proofs.Door.{readable-long, call-unread, reset-refused, reset-put}
 use borrow.Author.Needs.{needs}
 use Rattle.vad_door.proofs.reset.Statement.{statement}
 use Rattle.vad_door.proofs.reset.Tie as tie
 
-well-formed-requires : tie.Need-well-formed-requires
-well-formed-requires c κs = search needs
+is-readable-requires : tie.Need-is-readable-requires
+is-readable-requires c κs = search needs
 
 same-length : tie.Need-same-length
 same-length c = search needs
@@ -21,11 +22,11 @@ same-length-2 c = search needs
 returns : tie.Need-returns
 returns c =
     let s = c .before .before .before .before .before .before .args in
-    let bad = sym (c .before .well-formed .ensures) ∙ not-true _ (c .if1 .taken) in
-    call-unread (s .numbers .now) (s .floats .now) (restarted (s .numbers .now) (s .floats .now) (s .stream-start-time)) bad _ (omega arith)
+    let bad = sym (c .before .is-readable .ensures) ∙ not-true _ (c .if1 .taken) in
+    call-unread (s .numbers .now) (s .floats .now) (answered (Reset (s .stream-start-time))) bad _ (omega arith)
 
 good : (k : tie.Else1) → let s = k .before .before .before .before .before .before .args in readable (s .numbers .now) (s .floats .now) ≡ true
-good k = sym (k .before .well-formed .ensures) ∙ not-false _ (k .if1 .left)
+good k = sym (k .before .is-readable .ensures) ∙ not-false _ (k .if1 .left)
 
 emptied-requires : tie.Need-emptied-requires
 emptied-requires c κs = good (c .before .before)
@@ -69,7 +70,7 @@ pub reset-spec : {M : Type 1} → statement M
 reset-spec =
     tie.close
     (tie.spec
-    well-formed-requires
+    is-readable-requires
     same-length
     same-length-2
     returns

@@ -1,7 +1,8 @@
 use mathlib.Core.Path.{sym, ap, subst, _∙_}
-use Prim.Native.Nat.{_<_, _^_}
+use Prim.Native.Nat.{_≤_}
 use native.Mathlib.Omega.{arith}
 use Rattle.vad_segments.specs.declared.ActiveSegment.{ActiveSegment}
+use Rattle.ranges.specs.Sizes.{receivedMost}
 use Rattle.vad_detector.specs.Readings.{openStart}
 use Rattle.vad_door.specs.DetectorDoor.{startWord}
 use borrow.Author.Needs.{needs}
@@ -17,7 +18,7 @@ enum-known-active c = search needs
 add-result : tie.Need-add-result
 unfolding openStart
 add-result c =
-    let small = subst (λ (a : ActiveSegment). openStart a .«start_sample» < 2 ^ 54) (c .before .before .active .given .1) (c .before .before .before .before .pre) in
+    let small = subst (λ (a : ActiveSegment). openStart a .«start_sample» ≤ receivedMost) (c .before .before .active .given .1) (c .before .before .before .before .pre) in
     omega arith
 
 returns : tie.Need-returns

@@ -4,7 +4,7 @@ use native.Mathlib.Omega.{arith}
 use lib.ListN.{length, drop, set, getD, length-set}
 use lib.Seq.{sets}
 use lib.Ieee.{nan}
-use Rattle.lists.specs.Stores.{sets-cons}
+use Rattle.lists.proofs.Stores.{sets-cons}
 use borrow.Author.Needs.{needs}
 use Rattle.vad_frames.specs.Emphasis.{emphasizedOf, emphasized}
 use Rattle.vad_frames.proofs.Turns.{emphasized-step, emphasized-end}

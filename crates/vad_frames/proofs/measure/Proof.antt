@@ -4,7 +4,7 @@ use Prim.Native.Nat.{ℕ, _+_, _-_, _≤_, _<_}
 use native.Mathlib.Omega.{arith}
 use lib.ListN.{length, take, drop, set, length-set}
 use lib.Seq.{sets}
-use Rattle.lists.specs.Stores.{sets-cons}
+use Rattle.lists.proofs.Stores.{sets-cons}
 use borrow.Author.Needs.{needs}
 use borrow.Author.Tests.{not-true, not-false}
 use Rattle.vad_frames.specs.Grid.{taken, framesOf, energiesOf}

@@ -8,9 +8,9 @@ use lib.ListN.{length, drop, set, getD, length-set}
 use lib.Seq.{sets}
 use lib.Ieee.{Float, nan}
 use lib.Ieee.Scale.{finite}
-use Rattle.lists.specs.Every.{every-at}
-use Rattle.lists.specs.Stores.{sets-cons, sets-over}
-use Rattle.float.proofs.Words.{both}
+use Rattle.lists.proofs.Every.{every-at}
+use Rattle.lists.proofs.Stores.{sets-cons, sets-over}
+use Rattle.lists.proofs.Tests.{both}
 use borrow.Author.Needs.{needs}
 use Rattle.vad_frames.specs.Emphasis.{emphasized}
 use Rattle.vad_frames.specs.Inside.{SamePast}

@@ -3,13 +3,14 @@ use Prim.Native.Nat.{_≤_, _<_, _-_}
 use native.Mathlib.Omega.{arith}
 use lib.ListN.{length, drop}
 use borrow.Author.Needs.{needs}
-use Rattle.vad_frames.specs.Energy.{zero, squareOf, squaresFrom}
+use Rattle.float.specs.Numbers.{zero32}
+use Rattle.vad_frames.specs.Energy.{squareOf, squaresFrom}
 use Rattle.vad_frames.proofs.Turns.{squares-step, squares-end}
 use Rattle.vad_frames.proofs.sum_of_squares.Statement.{statement}
 use Rattle.vad_frames.proofs.sum_of_squares.Tie as tie
 
 abbrev Inv-loop : tie.InvT-loop
-Inv-loop frame window total₀ i₀ total i = (i ≤ length frame) × (squaresFrom total (drop i frame) (drop i window) ≡ squaresFrom zero frame window)
+Inv-loop frame window total₀ i₀ total i = (i ≤ length frame) × (squaresFrom total (drop i frame) (drop i window) ≡ squaresFrom zero32 frame window)
 
 abbrev μ-loop : tie.MeasureT-loop
 μ-loop frame window total₀ i₀ total i = length frame - i

@@ -1,4 +1,6 @@
-use Rattle.vad_memory.proofs.Parts.{within, config-is}
+use mathlib.Core.Path.{refl}
+use Rattle.vad_memory.specs.DetectorState.{configAt}
+use Rattle.vad_memory.proofs.Parts.{within}
 use mathlib.Core.Path.{refl}
 use borrow.Author.Needs.{needs}
 use Rattle.vad_memory.proofs.config_at.Statement.{statement}
@@ -50,7 +52,8 @@ shared-slice-read-t32 : tie.Need-shared-slice-read-t32
 shared-slice-read-t32 c = within (c .before .before .before .before .before .before .before .before .before .before .before .before .before .before .pre .0) refl
 
 returns : tie.Need-returns
-returns c = let s = c .before .before .before .before .before .before .before .before .before .before .before .before .before .before in config-is (s .args .numbers .now) (s .args .floats .now) (s .pre .1 .0)
+unfolding configAt
+returns c = refl
 
 pub config-at-spec : {M : Type 1} → statement M
 config-at-spec =

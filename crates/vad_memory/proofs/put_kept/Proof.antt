@@ -1,6 +1,6 @@
 use mathlib.Core.Path.{ap, _∙_}
 use lib.Seq.{sets}
-use Rattle.vad_state.specs.Kept.{hollowOf}
+use Rattle.vad_layout.proofs.InFloats as in-floats
 use Rattle.vad_memory.proofs.Parts.{Long, long-parts}
 use Rattle.vad_memory.proofs.Put.{numbers-put}
 use borrow.Author.Needs.{needs}
@@ -38,8 +38,8 @@ returns : tie.Need-returns
 returns c =
     let s = c .before .before .before .before .before .before .before .before .before .before .before .before .before .before in
     let ns = s .args .numbers .now in (
-      c .before .before .before .before .before .before .before .before .put-numbers .ensures ∙ ap (sets ns 0) (c .before .before .before .before .before .before .before .before .before .before .numbers-of .ensures) ∙ numbers-put (hollowOf (s .args .kept)) (s .args .tally) ns (told s .numbers),
-      c .before .before .put-floats .ensures ∙ ap (sets (s .args .floats .now) 4396) (c .before .before .before .before .singles-of .ensures),
+      c .before .before .before .before .before .before .before .before .put-numbers .ensures ∙ ap (sets ns 0) (c .before .before .before .before .before .before .before .before .before .before .numbers-of .ensures) ∙ numbers-put (s .args .kept) (s .args .tally) ns (told s .numbers),
+      c .before .before .put-floats .ensures ∙ ap (sets (s .args .floats .now) in-floats.singles) (c .before .before .before .before .singles-of .ensures),
     )
 
 pub put-kept-spec : {M : Type 1} → statement M

@@ -2,6 +2,8 @@ use mathlib.Core.Path.{_≡_}
 use Prim.Native.Nat.{_≤_}
 use native.Mathlib.Omega.{arith}
 use lib.ListN.{length}
+use Rattle.vad_layout.proofs.InFloats as in-floats
+use Rattle.ranges.specs.Sizes.{frameMost, warmupMost}
 use Rattle.vad_memory.proofs.Put.{three-parts}
 use borrow.Author.Needs.{needs}
 use Rattle.vad_memory.proofs.put_parts.Statement.{statement}
@@ -22,10 +24,10 @@ same-length c = search needs
 returns : tie.Need-returns
 returns c =
     let s = c .before .before .before .before .before .before .before .before .before .before .before .before .before .before .before .before in
-    let window : length (s .args .window .now) ≡ 2048 = search needs in
-    let carry : length (s .args .carry .now) ≡ 2048 = search needs in
-    let warmup : length (s .args .warmup .now) ≡ 300 = search needs in
-    let room : 4396 ≤ length (s .args .to .now) = (let long = s .pre in omega arith) in
+    let window : length (s .args .window .now) ≡ frameMost = search needs in
+    let carry : length (s .args .carry .now) ≡ frameMost = search needs in
+    let warmup : length (s .args .warmup .now) ≡ warmupMost = search needs in
+    let room : in-floats.singles ≤ length (s .args .to .now) = (let long = s .pre in omega arith) in
     three-parts (s .args .to .now) (s .args .window .now) (s .args .carry .now) (s .args .warmup .now)
     _ _ _
     window carry warmup

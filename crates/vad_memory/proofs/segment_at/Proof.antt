@@ -1,9 +1,5 @@
 use mathlib.Core.Path.{refl}
-use Prim.Native.Nat.{_≤_}
-use native.Mathlib.Omega.{arith}
-use lib.ListN.{length}
 use Rattle.vad_memory.specs.DetectorState.{segmentAt}
-use Rattle.vad_memory.proofs.Parts.{inside}
 use borrow.Author.Needs.{needs}
 use Rattle.vad_memory.proofs.segment_at.Statement.{statement}
 use Rattle.vad_memory.proofs.segment_at.Tie as tie
@@ -28,11 +24,7 @@ shared-slice-read-t14 c = search needs
 
 returns : tie.Need-returns
 unfolding segmentAt
-returns c =
-    let s = c .before .before .before .before .before .before in
-    let fs = s .args .floats .now in
-    let room : 4407 ≤ length fs = s .pre .1 in
-    rw (inside fs 4406 (omega arith)) refl
+returns c = refl
 
 pub segment-at-spec : {M : Type 1} → statement M
 segment-at-spec =

@@ -1,9 +1,5 @@
 use mathlib.Core.Path.{refl}
-use Prim.Native.Nat.{_≤_}
-use native.Mathlib.Omega.{arith}
-use lib.ListN.{length}
 use Rattle.vad_memory.specs.DetectorState.{trackAt}
-use Rattle.vad_memory.proofs.Parts.{inside}
 use borrow.Author.Needs.{needs}
 use Rattle.vad_memory.proofs.track_at.Statement.{statement}
 use Rattle.vad_memory.proofs.track_at.Tie as tie
@@ -25,11 +21,7 @@ active-at-requires c κs = search needs
 
 returns : tie.Need-returns
 unfolding trackAt
-returns c =
-    let s = c .before .before .before .before .before .before .before in
-    let fs = s .args .floats .now in
-    let room : 4407 ≤ length fs = s .pre .1 in
-    rw (c .active-at .ensures, inside fs 4405 (omega arith)) refl
+returns c = rw (c .active-at .ensures) refl
 
 pub track-at-spec : {M : Type 1} → statement M
 track-at-spec =

@@ -5,7 +5,7 @@ use native.Mathlib.Omega.{arith}
 use borrow.Author.Tests.{not-true, not-false, lt-ltb, le-ltb, le-leb, lt-leb}
 use lib.Dec.{ltb, leb}
 use Rattle.ranges.specs.Ranges.{within}
-use Rattle.vad_config.specs.Domain.{zero32}
+use Rattle.float.specs.Numbers.{zero32}
 use Rattle.vad_state.specs.State.{total32, segmentSound}
 use borrow.Author.Needs.{needs}
 use Rattle.vad_state.proofs.segment_sound.Statement.{statement}

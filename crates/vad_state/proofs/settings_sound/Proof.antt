@@ -3,8 +3,9 @@ use mathlib.Core.Bool.{true}
 use Prim.Native.Nat.{_≤_}
 use borrow.Author.Tests.{not-true, not-false, eq-eqb, ne-eqb}
 use Rattle.vad_config.specs.Settings.{refusalOf, lengthsOf}
-use Rattle.lists.specs.Stores.{from-start}
-use Rattle.vad_state.specs.State.{handedIn, sameLengths, settingsSound}
+use Rattle.lists.proofs.Stores.{from-start}
+use Rattle.ranges.specs.Sizes.{frameMost}
+use Rattle.vad_state.specs.State.{weightsIn, sameLengths, settingsSound}
 use Rattle.vad_state.proofs.Parts.{same-parts}
 use Rattle.vad_state.proofs.Tests.{frame-short}
 use borrow.Author.Needs.{needs}
@@ -36,27 +37,27 @@ returns-2 c =
     let other = ap (sameLengths _) (sym (c .before .before .lengths-of .ensures)) ∙ sym (c .before .same-lengths .ensures) ∙ not-true _ (c .if2 .taken) in
     simp (eq-eqb _ _ (accepted (c .before .before .before .before)), other)
 
-sub-handed-in : tie.Need-sub-handed-in
-sub-handed-in c = search needs
+sub-weights-in : tie.Need-sub-weights-in
+sub-weights-in c = search needs
 
-part-handed-in-start : tie.Need-part-handed-in-start
-part-handed-in-start c = search needs
+part-weights-in-start : tie.Need-part-weights-in-start
+part-weights-in-start c = search needs
 
-part-handed-in-end : tie.Need-part-handed-in-end
-part-handed-in-end c =
+part-weights-in-end : tie.Need-part-weights-in-end
+part-weights-in-end c =
     let s = c .before .before .before .before .before .before .before .before in
-    let short : s .args .rules .lengths .«frame_length» ≤ 2048 = frame-short (s .args .rules) (accepted (c .before .before .before .before)) (same-parts _ _ (derived c)) in
+    let short : s .args .rules .lengths .«frame_length» ≤ frameMost = frame-short (s .args .rules) (accepted (c .before .before .before .before)) (same-parts _ _ (derived c)) in
     search needs
 
-handed-in-requires : tie.Need-handed-in-requires
-handed-in-requires c κs = search needs
+weights-in-requires : tie.Need-weights-in-requires
+weights-in-requires c κs = search needs
 
 returns-3 : tie.Need-returns-3
 unfolding settingsSound
 returns-3 c =
     let k = c .before .before in
     let s = k .before .before .before .before .before .before .before .before .args in
-    simp (eq-eqb _ _ (accepted (k .before .before .before .before)), derived k) (c .handed-in .ensures ∙ ap (λ xs. handedIn xs (s .rules .«speech_floor_rise»)) (from-start (s .rules .lengths .«frame_length») (s .window .now)))
+    simp (eq-eqb _ _ (accepted (k .before .before .before .before)), derived k) (c .weights-in .ensures ∙ ap (λ xs. weightsIn xs (s .rules .«speech_floor_rise»)) (from-start (s .rules .lengths .«frame_length») (s .window .now)))
 
 pub settings-sound-spec : {M : Type 1} → statement M
-settings-sound-spec = tie.close (tie.spec validate-requires returns lengths-of-requires same-lengths-requires returns-2 sub-handed-in part-handed-in-start part-handed-in-end handed-in-requires returns-3)
+settings-sound-spec = tie.close (tie.spec validate-requires returns lengths-of-requires same-lengths-requires returns-2 sub-weights-in part-weights-in-start part-weights-in-end weights-in-requires returns-3)

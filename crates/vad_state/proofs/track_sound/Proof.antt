@@ -6,6 +6,7 @@ use lib.Dec.{leb}
 use lib.Ieee.{lt}
 use lib.Ieee.Scale.{finite}
 use Rattle.vad_config.specs.Domain.{receivedIn}
+use Rattle.ranges.specs.Sizes.{receivedMost}
 use Rattle.vad_state.specs.State.{trackSound}
 use borrow.Author.Needs.{needs}
 use Rattle.vad_state.proofs.track_sound.Statement.{statement}
@@ -17,7 +18,7 @@ number k = sym (k .before .is-finite .ensures) ∙ not-false _ (k .if1 .left)
 risen : (k : tie.Else2) → let s = k .before .before .before .before .args in lt (s .track .«noise_floor») (s .energy-floor) ≡ false
 risen k = k .if2 .left
 
-counted : (k : tie.Else3) → leb (k .before .before .before .before .before .args .received) (2 ^ 40) ≡ true
+counted : (k : tie.Else3) → leb (k .before .before .before .before .before .args .received) receivedMost ≡ true
 counted k = le-leb _ _ (k .if3 .left)
 
 ended : (k : tie.Else4) → let s = k .before .before .before .before .before .before .before .args in leb (s .track .«last_segment_end») (s .received) ≡ true
@@ -44,7 +45,7 @@ returns-3 : tie.Need-returns-3
 unfolding trackSound receivedIn
 returns-3 c =
     let s = c .before .before .before .before .before .args in
-    simp (number (c .before .before .before), risen (c .before), lt-leb (s .received) (2 ^ 40) (c .if3 .taken))
+    simp (number (c .before .before .before), risen (c .before), lt-leb (s .received) receivedMost (c .if3 .taken))
 
 returns-4 : tie.Need-returns-4
 unfolding trackSound receivedIn

@@ -1,13 +1,13 @@
 use mathlib.Core.Path.{_≡_}
 use mathlib.Core.Bool.{true}
 use lib.Ieee.{lt}
-use Rattle.dc_state.specs.Settings.{zero}
+use Rattle.float.specs.Numbers.{zero32}
 use Rattle.dc_state.proofs.settings.alpha_taken.Statement.{statement}
 use Rattle.dc_state.proofs.settings.alpha_taken.Tie as tie
 
 returns : tie.Need-returns
 returns c =
-    let low : lt zero (c .before .args .alpha) ≡ true = c .if1 .taken in
+    let low : lt zero32 (c .before .args .alpha) ≡ true = c .if1 .taken in
     simp low
 
 returns-2 : tie.Need-returns-2

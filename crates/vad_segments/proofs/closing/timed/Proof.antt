@@ -21,15 +21,15 @@ returns c =
     let b = c .before .before .time-at2 in
     c .dropped .ensures ∙ timed-dropped (s .config) (s .limit) (s .prev-end) (s .start) (s .end) (s .segment) (a .result) (b .result) (a .ensures) (b .ensures) (omega arith)
 
-speech-chunk-requires : tie.Need-speech-chunk-requires
-speech-chunk-requires c κs = search needs
+row-of-requires : tie.Need-row-of-requires
+row-of-requires c κs = search needs
 
 returns-2 : tie.Need-returns-2
 returns-2 c =
     let s = c .before .before .before .before .args in
     let a = c .before .before .before .time-at in
     let b = c .before .before .time-at2 in
-    timed-row (s .config) (s .limit) (s .prev-end) (s .start) (s .end) (s .segment) (a .result) (b .result) (a .ensures) (b .ensures) (omega arith) (c .speech-chunk .result) (c .speech-chunk .ensures)
+    timed-row (s .config) (s .limit) (s .prev-end) (s .start) (s .end) (s .segment) (a .result) (b .result) (a .ensures) (b .ensures) (omega arith) (c .row-of .result) (c .row-of .ensures)
 
 pub timed-spec : {M : Type 1} → statement M
 timed-spec =
@@ -39,5 +39,5 @@ timed-spec =
     time-at-requires-2
     dropped-requires
     returns
-    speech-chunk-requires
+    row-of-requires
     returns-2)

@@ -9,15 +9,15 @@ use Rattle.vad_segments.proofs.judging.extend.Tie as tie
 score-requires : tie.Need-score-requires
 score-requires c κs = search needs
 
-add-t5 : tie.Need-add-t5
-add-t5 c = let most = score-le (c .before .before .args .ratio) in omega (arith, c .before .score .ensures)
+add-segment : tie.Need-add-segment
+add-segment c = let most = score-le (c .before .before .args .ratio) in omega (arith, c .before .score .ensures)
 
-add-t7 : tie.Need-add-t7
-add-t7 c = search needs
+add-segment-2 : tie.Need-add-segment-2
+add-segment-2 c = search needs
 
 returns : tie.Need-returns
 unfolding extendedBy
 returns c = simp (c .before .before .before .before .score .ensures, add-one)
 
 pub extend-spec : {M : Type 1} → statement M
-extend-spec = tie.close (tie.spec score-requires add-t5 add-t7 returns)
+extend-spec = tie.close (tie.spec score-requires add-segment add-segment-2 returns)

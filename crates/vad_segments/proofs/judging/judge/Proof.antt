@@ -1,5 +1,5 @@
-use Rattle.vad_segments.specs.Judging.{flooredTo}
 use Rattle.vad_segments.proofs.Calls.{judged-is}
+use Rattle.vad_segments.specs.Judging.{flooredTo}
 use borrow.Author.Needs.{needs}
 use Rattle.vad_segments.proofs.judging.judge.Statement.{statement}
 use Rattle.vad_segments.proofs.judging.judge.Tie as tie

@@ -3,12 +3,12 @@ use borrow.Author.Needs.{needs}
 use Rattle.vad_segments.proofs.judging.turn.Statement.{statement}
 use Rattle.vad_segments.proofs.judging.turn.Tie as tie
 
-hear-requires : tie.Need-hear-requires
-hear-requires c κs = search needs
+add-loud-requires : tie.Need-add-loud-requires
+add-loud-requires c κs = search needs
 
 returns : tie.Need-returns
 unfolding turnedOf
-returns c = simp (c .before .if1 .taken, c .hear .ensures)
+returns c = simp (c .before .if1 .taken, c .add-loud .ensures)
 
 pause-requires : tie.Need-pause-requires
 pause-requires c κs = search needs
@@ -26,4 +26,4 @@ returns-3 c = simp (c .before .before .if1 .left, c .before .if2 .left) (c .clos
 
 pub turn-spec : {M : Type 1} → statement M
 turn-spec =
-    tie.close (tie.spec hear-requires returns pause-requires returns-2 close-requires returns-3)
+    tie.close (tie.spec add-loud-requires returns pause-requires returns-2 close-requires returns-3)

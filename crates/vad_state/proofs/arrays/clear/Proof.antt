@@ -4,8 +4,8 @@ use native.Mathlib.Omega.{arith}
 use lib.ListN.{length, set, replicate, length-set}
 use lib.Seq.{sets}
 use borrow.Author.Needs.{needs}
-use Rattle.vad_config.specs.Domain.{zero32}
-use Rattle.lists.specs.Stores.{clear-step, clear-end}
+use Rattle.float.specs.Numbers.{zero32}
+use Rattle.lists.proofs.Stores.{clear-step, clear-end}
 use Rattle.vad_state.proofs.Fills.{cleared}
 use Rattle.vad_state.proofs.arrays.clear.Statement.{statement}
 use Rattle.vad_state.proofs.arrays.clear.Tie as tie

@@ -1,6 +1,7 @@
 use mathlib.Core.Path.{_≡_, ap, _∙_}
 use Prim.Native.Nat.{ℕ}
 use lib.ListN.{length, take}
+use Rattle.ranges.specs.Sizes.{frameMost}
 use borrow.Author.Needs.{needs}
 use Rattle.vad_state.specs.Arrays.{filledOf}
 use Rattle.vad_state.proofs.arrays.clear_past.Statement.{statement}
@@ -12,7 +13,7 @@ clear-requires c κs = search needs
 returns : tie.Need-returns
 returns c =
     let s = c .before .before in
-    let long : length (s .args .to .now) ≡ 2048 = search needs in
+    let long : length (s .args .to .now) ≡ frameMost = search needs in
     c .clear .ensures ∙ ap (λ (k : ℕ). filledOf k (take (s .args .n) (s .args .to .now))) long
 
 pub clear-past-spec : {M : Type 1} → statement M

@@ -1,4 +1,5 @@
 use mathlib.Core.Path.{_∙_}
+use Rattle.ranges.specs.Sizes.{frameMost}
 use borrow.Author.Needs.{needs}
 use Rattle.vad_state.proofs.Fills.{put-filled}
 use Rattle.vad_state.proofs.arrays.filled.Statement.{statement}
@@ -11,7 +12,7 @@ put-requires : tie.Need-put-requires
 put-requires c κs = search needs
 
 returns : tie.Need-returns
-returns c = let s = c .before .before .before .before in c .before .put .ensures ∙ put-filled 2048 (s .args .numbers .now) (s .pre)
+returns c = let s = c .before .before .before .before in c .before .put .ensures ∙ put-filled frameMost (s .args .numbers .now) (s .pre)
 
 pub filled-spec : {M : Type 1} → statement M
 filled-spec = tie.close (tie.spec slice-aggregate-put put-requires returns)

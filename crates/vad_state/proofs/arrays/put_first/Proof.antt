@@ -1,7 +1,7 @@
 use mathlib.Core.Path.{ap, _∙_}
 use lib.Seq.{sets}
 use borrow.Author.Needs.{needs}
-use Rattle.lists.specs.Stores.{from-start}
+use Rattle.lists.proofs.Stores.{from-start}
 use Rattle.vad_state.proofs.arrays.put_first.Statement.{statement}
 use Rattle.vad_state.proofs.arrays.put_first.Tie as tie
 

@@ -1,0 +1,4 @@
+pub mod Stores
+pub mod Every
+pub mod Tests
+pub mod Flags

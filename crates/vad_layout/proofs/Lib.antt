@@ -1,0 +1,2 @@
+pub mod InNumbers
+pub mod InFloats
