@@ -164,7 +164,7 @@ struct fallowcart_row {
     uint64_t loud_frames;
     uint64_t mean_energy; /* the f32's bits */
 };
-enum { FALLOWCART_ROW_FIELDS = 7 };
+enum { FALLOWCART_ROW_FIELDS = sizeof(struct fallowcart_row) / sizeof(uint64_t) };
 
 /*
  * The settings, and what is usual:

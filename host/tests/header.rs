@@ -29,10 +29,28 @@ fn blocks<'a>(code: &'a str, word: &'a str) -> impl Iterator<Item = &'a str> {
     after.map(|text| text.split_once('}').expect("a block's end").0)
 }
 
-/// The value of a sum of numbers and of constants that stand before it.
-fn value(sum: &str, known: &Constants) -> usize {
+/// The value of a sum of numbers and of constants that stand before it, or a struct's length in numbers.
+fn value(sum: &str, known: &Constants, code: &str) -> usize {
+    if let Some(size) = sum.trim().strip_suffix(" / sizeof(uint64_t)") {
+        let named = size
+            .strip_prefix("sizeof(")
+            .and_then(|s| s.strip_suffix(')'));
+        return fields(code, named.expect("a struct's size")).len();
+    }
     let one = |word: &str| word.parse().unwrap_or_else(|_| known[word]);
     sum.split('+').map(|word| one(word.trim())).sum()
+}
+
+/// The fields of a struct of numbers.
+fn fields<'a>(code: &'a str, name: &str) -> Vec<&'a str> {
+    let opening = format!("{name} {{");
+    let (_, after) = code.split_once(&opening).expect("the struct");
+    let (block, _) = after.split_once('}').expect("the struct's end");
+    let fields = block.split(';').map(str::trim);
+    fields
+        .filter(|field| !field.is_empty())
+        .map(|field| field.strip_prefix("uint64_t ").expect("a number"))
+        .collect()
 }
 
 /// Every enumerator of the header, as C counts: one without a value is one more than the one before it.
@@ -47,7 +65,7 @@ fn constants() -> Constants {
             .filter(|one| !one.is_empty())
         {
             let (name, given) = match one.split_once('=') {
-                Some((name, sum)) => (name.trim(), value(sum, &found)),
+                Some((name, sum)) => (name.trim(), value(sum, &found, &code)),
                 None => (one, next),
             };
             next = given + 1;
@@ -112,14 +130,8 @@ fn the_header_s_constants_are_the_layout_s() {
 
 #[test]
 fn the_header_s_row_is_the_layout_s() {
-    let code = code(&header());
-    let fields = blocks(&code, "struct fallowcart_row {").next();
-    let fields = fields.expect("the row").split(';').map(str::trim);
-    let fields: Vec<String> = fields
-        .filter(|field| !field.is_empty())
-        .map(|field| field.strip_prefix("uint64_t ").expect("a number").into())
-        .collect();
     let names = row::ALL.iter().map(|(name, _)| name.to_lowercase());
-    assert_eq!(fields, names.collect::<Vec<_>>());
-    assert_eq!(fields.len(), layout::ROW_FIELDS);
+    let names: Vec<_> = names.collect();
+    assert_eq!(fields(&code(&header()), "struct fallowcart_row"), names);
+    assert_eq!(names.len(), layout::ROW_FIELDS);
 }

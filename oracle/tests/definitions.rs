@@ -4,16 +4,12 @@
 
 mod common;
 
-use common::ROW_FIELDS;
+use common::row_fields;
 use speech_prep::probe::{Answer, Probe};
 use speech_prep::{AudioDuration, VadConfig};
 
 const FRAMES: &str = include_str!("../../crates/vad_runs/proofs/Frames.antt");
 const SEGMENTS: &str = include_str!("../../crates/vad_runs/proofs/Segments.antt");
-
-/// Where a row has its score total and its loud frames.
-const SCORE_TOTAL: usize = 4;
-const LOUD_FRAMES: usize = 5;
 
 const FRAME: usize = 16;
 const HOP: usize = 8;
@@ -206,20 +202,25 @@ fn rows_of_segments() {
     // The port's scores are its own; they stand for the confidence within 0.002.
     let ours = list(SEGMENTS, "answers");
     assert_eq!(ours.len(), answers.len());
+    let fields = row_fields();
+    let [score_total, loud_frames] = ["score_total", "loud_frames"].map(|name| {
+        let place = fields.iter().position(|field| *field == name);
+        place.expect("a field of the row")
+    });
     let (mut at, mut rows) = (0, 0);
     while at < ours.len() {
         assert_eq!(ours[at..at + 3], answers[at..at + 3], "at {at}");
         let n = ours[at + 2] as usize;
         at += 3;
         for _ in 0..n {
-            let (our, row) = (&ours[at..][..ROW_FIELDS], &answers[at..][..ROW_FIELDS]);
-            for n in (0..ROW_FIELDS).filter(|&n| n != SCORE_TOTAL) {
+            let [our, row] = [&ours, &answers].map(|all| &all[at..][..fields.len()]);
+            for n in (0..fields.len()).filter(|&n| n != score_total) {
                 assert_eq!(our[n], row[n], "at {}", at + n);
             }
-            let [our_score, score] = [our, row].map(|fields| fields[SCORE_TOTAL]);
-            let distance = our_score.abs_diff(score) as f64 / (1024 * row[LOUD_FRAMES]) as f64;
+            let [our_score, score] = [our, row].map(|row| row[score_total]);
+            let distance = our_score.abs_diff(score) as f64 / (1024 * row[loud_frames]) as f64;
             assert!(distance <= 0.002, "at {at}: {our_score} and {score}");
-            at += ROW_FIELDS;
+            at += fields.len();
             rows += 1;
         }
     }

@@ -6,12 +6,17 @@ mod common;
 use std::fmt::Write as _;
 use std::path::PathBuf;
 
-use common::ROW_FIELDS;
+use common::row_fields;
 use speech_prep::probe::{Answer, Probe};
 use speech_prep::{AudioDuration, AudioTimestamp, VadConfig};
 
-/// How many numbers a call of the list lends for rows at most.
-const LENT: usize = 64 * ROW_FIELDS;
+/// How many rows a call of the list lends numbers for at most.
+const ROWS_MOST: usize = 64;
+
+/// How many numbers that many rows take.
+fn room(rows: usize) -> usize {
+    rows * row_fields().len()
+}
 
 /// The calls as the program reads them, and the lines that it must print.
 #[derive(Default)]
@@ -93,9 +98,9 @@ impl List {
     fn heard(&mut self, block: Option<&[f32]>, probe: &Probe, answer: &Answer) {
         let rows = answer.segments.len();
         if rows > 0 {
-            self.refused(block, rows * ROW_FIELDS - 1, 18, rows);
+            self.refused(block, room(rows) - 1, 18, rows);
         }
-        self.call(block, LENT.min(rows * ROW_FIELDS));
+        self.call(block, room(rows.min(ROWS_MOST)));
         let open = probe
             .open_start()
             .map_or("-".into(), |start| start.to_string());
@@ -337,13 +342,13 @@ fn runs() -> List {
     // The defaults, with pre-emphasis; an empty block, the longest, a flush, a new grid after it, and refused calls.
     let mut probe = open(&mut list, settings());
     blocks(&mut list, &probe, 0, 4_800, &[160, 0, 1, 79, 1_024]);
-    list.refused(Some(&[0.0; 1_025]), LENT, 15, 0);
+    list.refused(Some(&[0.0; 1_025]), room(ROWS_MOST), 15, 0);
     let mut bad = [0.25; 32];
     bad[7] = f32::NAN;
     bad[9] = 65_537.0;
-    list.refused(Some(&bad), LENT, 16, 7);
+    list.refused(Some(&bad), room(ROWS_MOST), 16, 7);
     bad[7] = -65_536.0;
-    list.refused(Some(&bad), LENT, 16, 9);
+    list.refused(Some(&bad), room(ROWS_MOST), 16, 9);
     list.flush(&probe);
     list.flush(&probe);
     blocks(&mut list, &probe, 4_800, 9_000, &[333]);

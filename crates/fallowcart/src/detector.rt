@@ -3,8 +3,8 @@ ghost use mathlib.Core.Path.{_≡_};
 ghost use lib.ListN.{length};
 ghost use Rattle.vad_config.specs.Config.{settingsOf};
 ghost use Rattle.vad_detector.specs.Readings.{undecidedRead, analyzedRead, rowsRead, talkRead};
-ghost use Rattle.vad_detector.specs.Run.{Detect, Flush, Reset};
-ghost use Rattle.vad_door.specs.DetectorDoor.{openAnswer, openNumbers, openFloats, answered, callAnswer, callNumbers, callFloats, detectedRows, flushedRows, readAnswer, floorAnswer, segmentAnswer};
+ghost use Rattle.vad_detector.specs.Run.{Detect, Flush, Reset, answered};
+ghost use Rattle.vad_door.specs.DetectorDoor.{openAnswer, openNumbers, openFloats, callAnswer, callNumbers, callFloats, detectedRows, flushedRows, readAnswer, floorWord, segmentWord};
 use crate::config::collected;
 
 // The window is a frame long; the host works it and the rise weight out.
@@ -114,7 +114,7 @@ pub extern "C" fn fallowcart_vad_analyzed_until(numbers: &[u64], floats: &[f32])
 // Carries 0 where no segment is open, else one more than its start.
 #[no_mangle]
 pub extern "C" fn fallowcart_vad_active_segment_start_sample(numbers: &[u64], floats: &[f32]) -> u64
-    ensures { λ r. ⌜ r ≡ segmentAnswer (now (numbers .entry)) (now (floats .entry)) ⌝ }
+    ensures { λ r. ⌜ r ≡ readAnswer (now (numbers .entry)) (now (floats .entry)) segmentWord ⌝ }
 {
     vad_door::active_segment_start_sample(numbers, floats)
 }
@@ -136,7 +136,7 @@ pub extern "C" fn fallowcart_vad_talk_samples(numbers: &[u64], floats: &[f32]) -
 // Carries the floor's bits.
 #[no_mangle]
 pub extern "C" fn fallowcart_vad_noise_floor(numbers: &[u64], floats: &[f32]) -> u64
-    ensures { λ r. ⌜ r ≡ floorAnswer (now (numbers .entry)) (now (floats .entry)) ⌝ }
+    ensures { λ r. ⌜ r ≡ readAnswer (now (numbers .entry)) (now (floats .entry)) floorWord ⌝ }
 {
     vad_door::noise_floor(numbers, floats)
 }

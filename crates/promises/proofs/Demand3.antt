@@ -26,7 +26,7 @@ use Rattle.vad_row.proofs.Laws.{talk-append, in-order-sooner, in-order-append, 
 use Rattle.vad_segments.proofs.Counts.{ActiveCounted, Recent}
 use Rattle.vad_segments.proofs.Undecided.{undecided-trails}
 use Rattle.vad_state.specs.declared.VadDetector.{VadDetector}
-use Rattle.vad_call.specs.Calls.{deskAfter, joinedOf, advancedOf}
+use Rattle.vad_call.specs.Calls.{refusedBy, deskAfter, joinedOf, advancedOf}
 use Rattle.vad_detector.specs.Opening.{rulesOf, freshOf, openOf, Handed, restartedOf, resetTo, resetOf}
 use Rattle.vad_detector.specs.Readings.{undecidedIn, openStart}
 use Rattle.vad_detector.specs.Run.{Call, Detect, Flush, Reset, next, play}
@@ -226,7 +226,7 @@ demand-3 c window rise ks z f =
 
 -- calls keep the settings, but for the stream's start
 next-settings : (d : VadDetector) (k : Call) (start : ℕ) → restartedOf (next d k .kept .rules .config) start ≡ restartedOf (d .kept .rules .config) start
-unfolding next joinedOf deskAfter advancedOf resetTo freshOf restartedOf
+unfolding next refusedBy joinedOf deskAfter advancedOf resetTo freshOf restartedOf
 next-settings d k start = go k
   where
     same : VadDetector → VadConfig

@@ -299,7 +299,7 @@ pub reset-running : (d : VadDetector) (start : ℕ) → Running d → Running (r
 reset-running d start r = ⊎-elim (λ k. subst Running (sym (k .2)) (reset-to-running d start (k .0 .1) r)) (λ k. subst Running (sym (k .1)) r) (reset-ends d start)
 
 pub next-running : (d : VadDetector) (k : Call) → Running d → Running (next d k)
-unfolding next
+unfolding next refusedBy
 next-running d (Detect xs room) r = detect-running d xs room r
 next-running d (Flush room) r = flush-running d room r
 next-running d (Reset start) r = reset-running d start r
@@ -358,7 +358,7 @@ nothing-refused k = malformed-refused nothingOpen k nothing-malformed
 
 -- a call on a malformed state returns it
 pub malformed-stays : (d : VadDetector) (k : Call) → soundOf d ≡ false → next d k ≡ d
-unfolding next
+unfolding next refusedBy
 malformed-stays d (Detect xs room) h = ⊎-elim (λ k. absurd (true≢false (sym (k .0 .sound) ∙ h))) (λ k. k .1) (detect-ends d xs room)
 malformed-stays d (Flush room) h = ⊎-elim (λ k. absurd (true≢false (sym (k .0) ∙ h))) (λ k. k .1) (flush-ends d room)
 malformed-stays d (Reset start) h = ⊎-elim (λ k. absurd (true≢false (sym (k .0 .0) ∙ h))) (λ k. k .1) (reset-ends d start)

@@ -15,7 +15,7 @@ use Rattle.ranges.specs.Sizes.{frameMost, warmupMost}
 use Rattle.vad_state.specs.State.{windowOf, carriedOf, heldOf, soundOf}
 use Rattle.vad_state.specs.Arrays.{filledOf}
 use Rattle.vad_detector.specs.Opening.{rulesOf, freshOf, openOf, Handed, resetTo}
-use Rattle.vad_call.specs.Calls.{measuredOf, carryAfter, streamAfter, holdingOf, heldAfter, dueOf, verdictOf, deskAfter, joinedOf, advancedOf}
+use Rattle.vad_call.specs.Calls.{refusedBy, measuredOf, carryAfter, streamAfter, holdingOf, heldAfter, dueOf, verdictOf, deskAfter, joinedOf, advancedOf}
 use Rattle.vad_detector.specs.Run.{Call, Detect, Flush, Reset, next, numberOf, play}
 use Rattle.vad_state.specs.declared.VadDetector.{VadDetector}
 use Rattle.vad_state.specs.declared.Stream.{Stream}
@@ -62,7 +62,7 @@ open-zeros c window rise z = subst ZerosPast (sym (opened-is c window rise z)) (
 
 -- a call gives a state with zeros, or is refused and returns the one that it was given
 next-zeros : (d : VadDetector) (k : Call) → (soundOf d ≡ true → length (windowOf d) ≡ d .kept .rules .lengths .«frame_length») → ((numberOf d k ≡ 0 → ⊥) → ZerosPast d) → ZerosPast (next d k)
-unfolding next numberOf resetTo
+unfolding next refusedBy numberOf resetTo
 next-zeros d (Detect xs room) w f = ⊎-elim (λ e. subst ZerosPast (sym (e .2)) (ran-zeros false d xs (w (e .0 .sound)))) (λ e. subst ZerosPast (sym (e .1)) (f (e .0))) (detect-ends d xs room)
 next-zeros d (Flush room) w f = ⊎-elim (λ e. subst ZerosPast (sym (e .2)) (ran-zeros true d [] (w (e .0)))) (λ e. subst ZerosPast (sym (e .1)) (f (e .0))) (flush-ends d room)
 next-zeros d (Reset start) w f = ⊎-elim (λ e. subst ZerosPast (sym (e .2)) (fresh-zeros _ (windowOf d) (w (e .0 .0)))) (λ e. subst ZerosPast (sym (e .1)) (f (e .0))) (reset-ends d start)

@@ -23,13 +23,13 @@ use Rattle.vad_call.specs.declared.Detected.{Detected}
 use Rattle.vad_call.proofs.Calls.{carry-few, held-few}
 use Rattle.vad_detector.specs.Opening.{openRefusal, rulesOf, freshOf, zeroRules, nothingOpen, openOf, restartedOf, resetTo, resetOf}
 use Rattle.vad_detector.specs.Entries.{detectOf, flushOf}
-use Rattle.vad_detector.specs.Run.{Call, Detect, Flush, Reset, next, play}
+use Rattle.vad_detector.specs.Run.{Call, Detect, Flush, Reset, next, play, answered}
 use Rattle.vad_detector.proofs.Answers.{open-parts, window-short}
 use Rattle.vad_detector.proofs.Running.{ranTo}
 use Rattle.vad_detector.proofs.Runs.{Ends, detect-ends, flush-ends, reset-ends}
 use Rattle.vad_memory.proofs.RoundTrip.{Shaped, written-back, written-readable, read-shaped}
 use Rattle.vad_memory.specs.DetectorState.{detectorAt, longEnough, readable, numbersWritten, floatsWritten}
-use Rattle.vad_door.specs.DetectorDoor.{openNumbers, openFloats, callNumbers, callFloats, answered, numbersAfter, floatsAfter}
+use Rattle.vad_door.specs.DetectorDoor.{openNumbers, openFloats, callNumbers, callFloats, numbersAfter, floatsAfter}
 
 -- ---- every call keeps the shape that memory needs
 
@@ -159,7 +159,7 @@ module _ (ns : List ℕ) (fs : List Float) (good : readable ns fs ≡ true) wher
   next-readable (Reset start) = reset-readable start
 
   next-carried : (k : Call) → detectorAt (callNumbers ns fs (answered k)) (callFloats ns fs (answered k)) ≡ next d k
-  unfolding next
+  unfolding next refusedBy
   next-carried (Detect xs room) = detect-carried xs room
   next-carried (Flush room) = flush-carried room
   next-carried (Reset start) = reset-carried start

@@ -31,7 +31,7 @@ use Rattle.vad_call.specs.declared.Tally.{Tally}
 use Rattle.vad_detector.specs.Opening.{openOf, resetOf}
 use Rattle.vad_call.specs.Checks.{blockRefusals, checkOf}
 use Rattle.vad_detector.specs.Entries.{detectOf, detectRows, flushOf, flushRows}
-use Rattle.vad_detector.specs.Run.{Detect, Flush, Reset}
+use Rattle.vad_detector.specs.Run.{Detect, Flush, Reset, answered}
 use Rattle.vad_detector.specs.Readings.{readOf, undecidedIn, undecidedRead, analyzedRead, rowsRead, talkRead, floorRead, openStart, segmentRead}
 use Rattle.vad_detector.specs.declared.Opened.{Opened}
 use Rattle.vad_detector.specs.declared.Reading.{Reading}
@@ -44,7 +44,7 @@ use Rattle.vad_memory.specs.DetectorState.{keptAt, detectorAt, longEnough, read
 use Rattle.vad_memory.proofs.Parts as memory
 use Rattle.vad_memory.proofs.Put.{singles-put}
 use Rattle.vad_memory.proofs.RoundTrip.{read-shaped}
-use Rattle.vad_door.specs.DetectorDoor.{openAnswer, openNumbers, openFloats, callAnswer, callNumbers, callFloats, answered, detectedRows, flushedRows, readAnswer, floorAnswer, startWord, segmentAnswer}
+use Rattle.vad_door.specs.DetectorDoor.{openAnswer, openNumbers, openFloats, callAnswer, callNumbers, callFloats, detectedRows, flushedRows, readAnswer, floorWord, startWord, segmentWord}
 use Rattle.vad_door.specs.Inside.{heardOf, heardRows, rowsHeard, wordOf, readBy}
 use Rattle.vad_door.specs.declared.Asked.{Asked}
 use Rattle.vad_door.specs.declared.Asked.the-variants.{UndecidedFrom, AnalyzedUntil, ActiveSegmentStart, RowsReported, TalkSamples, NoiseFloor}
@@ -317,8 +317,8 @@ module _ (ns : List ℕ) (fs : List Float) where
     unfolding readBy wordOf talkRead detectorAt
     talk-read h = h ∙ reading-is talkRead (wordOf TalkSamples (keptAt ns fs)) refl
 
-    pub floor-read : a ≡ readBy NoiseFloor ns fs → a ≡ floorAnswer ns fs
-    unfolding readBy wordOf floorAnswer floorRead detectorAt
+    pub floor-read : a ≡ readBy NoiseFloor ns fs → a ≡ readAnswer ns fs floorWord
+    unfolding readBy wordOf readAnswer floorRead detectorAt
     floor-read h = h ∙ go (readable ns fs) (soundOf d)
       where
         floor : Float
@@ -332,8 +332,8 @@ module _ (ns : List ℕ) (fs : List Float) where
         go true false = ap (packed 19) (sym zero-bits)
         go false b = refl
 
-    pub segment-read : a ≡ readBy ActiveSegmentStart ns fs → a ≡ segmentAnswer ns fs
-    unfolding readBy wordOf segmentAnswer segmentRead detectorAt
+    pub segment-read : a ≡ readBy ActiveSegmentStart ns fs → a ≡ readAnswer ns fs segmentWord
+    unfolding readBy wordOf readAnswer segmentRead detectorAt
     segment-read h = h ∙ go (readable ns fs) (soundOf d)
       where
         start : SegmentReading

@@ -6,8 +6,8 @@ use lib.Ieee.{Float}
 use Rattle.float.proofs.Unique.{only}
 use Rattle.vad_config.specs.declared.VadConfig.{VadConfig}
 use Rattle.vad_detector.specs.Readings.{undecidedRead, analyzedRead, rowsRead, talkRead}
-use Rattle.vad_detector.specs.Run.{Reset}
-use Rattle.vad_door.specs.DetectorDoor.{answered, readAnswer, floorAnswer, segmentAnswer}
+use Rattle.vad_detector.specs.Run.{Reset, answered}
+use Rattle.vad_door.specs.DetectorDoor.{readAnswer, floorWord, segmentWord}
 use Rattle.vad_door.proofs.Door.{OpenEnds, CallEnds, DetectEnds, FlushEnds}
 
 module _ (ns : List ℕ) (fs : List Float) (r q : ℕ) (ms ls : List ℕ) (gs hs : List Float) where
@@ -41,8 +41,8 @@ module _ (ns : List ℕ) (fs : List Float) (r q : ℕ) where
   pub talk-unique : r ≡ readAnswer ns fs talkRead → q ≡ readAnswer ns fs talkRead → r ≡ q
   talk-unique = only
 
-  pub floor-unique : r ≡ floorAnswer ns fs → q ≡ floorAnswer ns fs → r ≡ q
+  pub floor-unique : r ≡ readAnswer ns fs floorWord → q ≡ readAnswer ns fs floorWord → r ≡ q
   floor-unique = only
 
-  pub segment-unique : r ≡ segmentAnswer ns fs → q ≡ segmentAnswer ns fs → r ≡ q
+  pub segment-unique : r ≡ readAnswer ns fs segmentWord → q ≡ readAnswer ns fs segmentWord → r ≡ q
   segment-unique = only

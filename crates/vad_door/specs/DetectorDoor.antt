@@ -6,12 +6,12 @@ use lib.Dec.{eqb}
 use lib.Ieee.{Float, binary32, toBits}
 use Rattle.refusals.specs.Answers.{packed}
 use Rattle.vad_config.specs.declared.VadConfig.{VadConfig}
-use Rattle.vad_call.specs.Calls.{noTally, refusedBy}
+use Rattle.vad_call.specs.Calls.{noTally}
 use Rattle.vad_state.specs.declared.VadDetector.{VadDetector}
 use Rattle.vad_call.specs.declared.Detected.{Detected}
-use Rattle.vad_detector.specs.Opening.{openOf, resetOf}
-use Rattle.vad_detector.specs.Entries.{detectOf, detectRows, flushOf, flushRows}
-use Rattle.vad_detector.specs.Run.{Call, Detect, Flush, Reset}
+use Rattle.vad_detector.specs.Opening.{openOf}
+use Rattle.vad_detector.specs.Entries.{detectRows, flushRows}
+use Rattle.vad_detector.specs.Run.{Call, answered}
 use Rattle.vad_detector.specs.Readings.{floorRead, segmentRead}
 use Rattle.vad_detector.specs.declared.Reading.{Reading}
 use Rattle.vad_detector.specs.declared.SegmentReading.{SegmentReading}
@@ -32,12 +32,6 @@ module _ (c : VadConfig) (window : List Float) (rise : Float) (ns : List ℕ) (f
   openFloats = cond (longEnough ns fs) (floatsWritten (openOf c window rise .detector) fs) fs
 
 -- ---- detect, flush and reset
-
--- what the detector answers to a call; to a reset in the form of a call's answer: the number, nothing carried, and a tally of zeros
-abbrev pub answered : Call → VadDetector → Detected
-answered (Detect xs room) d = detectOf d xs room
-answered (Flush room) d = flushOf d room
-answered (Reset start) d = let r = resetOf d start in refusedBy (r .refusal) 0 (r .detector)
 
 -- an answer on the state that the memory holds: a refusal, the unreadable state's 19 included, leaves the memory as it is
 module _ (ns : List ℕ) (fs : List Float) (answer : VadDetector → Detected) where
@@ -75,23 +69,17 @@ floatsAfter ns fs (k ∷ ks) = floatsAfter (callNumbers ns fs (answered k)) (cal
 
 -- ---- readings
 
--- a position or a count
+-- what a reading carries: a position or a count as it is, the floor by its bits, an open segment by one more than its start, and 0 where none is open
 unfoldable pub readAnswer : List ℕ → List Float → (VadDetector → Reading) → ℕ
 readAnswer ns fs read =
     let r = read (detectorAt ns fs) in
     cond (readable ns fs) (packed (r .refusal) (r .value)) 19
 
--- carries the floor's bits
-unfoldable pub floorAnswer : List ℕ → List Float → ℕ
-floorAnswer ns fs =
-    let r = floorRead (detectorAt ns fs) in
-    cond (readable ns fs) (packed (r .refusal) (toBits binary32 (r .value))) 19
+abbrev pub floorWord : VadDetector → Reading
+floorWord d = record { refusal = floorRead d .refusal; value = toBits binary32 (floorRead d .value) }
 
--- carries 0 where no segment is open, else one more than its start
 abbrev pub startWord : SegmentReading → ℕ
 startWord r = cond (r .«is_open») (suc (r .«start_sample»)) 0
 
-unfoldable pub segmentAnswer : List ℕ → List Float → ℕ
-segmentAnswer ns fs =
-    let r = segmentRead (detectorAt ns fs) in
-    cond (readable ns fs) (packed (r .refusal) (startWord r)) 19
+abbrev pub segmentWord : VadDetector → Reading
+segmentWord d = record { refusal = segmentRead d .refusal; value = startWord (segmentRead d) }

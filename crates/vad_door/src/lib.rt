@@ -9,8 +9,8 @@ ghost use Rattle.vad_call.specs.Calls.{noTally, ranOf, writtenOf};
 ghost use Rattle.vad_detector.specs.Opening.{resetOf};
 ghost use Rattle.vad_detector.specs.Readings.{undecidedRead, analyzedRead, rowsRead, talkRead, openStart};
 ghost use Rattle.vad_memory.specs.DetectorState.{keptAt, detectorAt, longEnough, readable, numbersWritten, floatsWritten};
-ghost use Rattle.vad_detector.specs.Run.{Detect, Flush, Reset};
-ghost use Rattle.vad_door.specs.DetectorDoor.{openAnswer, openNumbers, openFloats, answered, callAnswer, callNumbers, callFloats, detectedRows, flushedRows, readAnswer, floorAnswer, startWord, segmentAnswer};
+ghost use Rattle.vad_detector.specs.Run.{Detect, Flush, Reset, answered};
+ghost use Rattle.vad_door.specs.DetectorDoor.{openAnswer, openNumbers, openFloats, callAnswer, callNumbers, callFloats, detectedRows, flushedRows, readAnswer, floorWord, startWord, segmentWord};
 ghost use Rattle.vad_door.specs.Inside.{heardOf, rowsHeard, wordOf, WordsSmall, readBy};
 use float::to_bits;
 use refusals::answer;
@@ -245,7 +245,7 @@ pub fn analyzed_until(numbers: &[u64], floats: &[f32]) -> u64
 
 // Carries 0 where no segment is open, else one more than its start.
 pub fn active_segment_start_sample(numbers: &[u64], floats: &[f32]) -> u64
-    ensures { λ r. ⌜ r ≡ segmentAnswer (now (numbers .entry)) (now (floats .entry)) ⌝ }
+    ensures { λ r. ⌜ r ≡ readAnswer (now (numbers .entry)) (now (floats .entry)) segmentWord ⌝ }
 {
     read(numbers, floats, Asked::ActiveSegmentStart)
 }
@@ -266,7 +266,7 @@ pub fn talk_samples(numbers: &[u64], floats: &[f32]) -> u64
 
 // Carries the floor's bits.
 pub fn noise_floor(numbers: &[u64], floats: &[f32]) -> u64
-    ensures { λ r. ⌜ r ≡ floorAnswer (now (numbers .entry)) (now (floats .entry)) ⌝ }
+    ensures { λ r. ⌜ r ≡ readAnswer (now (numbers .entry)) (now (floats .entry)) floorWord ⌝ }
 {
     read(numbers, floats, Asked::NoiseFloor)
 }

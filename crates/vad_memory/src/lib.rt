@@ -8,6 +8,7 @@ ghost use lib.Seq.{sets};
 ghost use Rattle.vad_layout.specs.Layout.{numbersMost, floatsMost, warmupFirst, singlesFirst};
 ghost use Rattle.ranges.specs.Sizes.{frameMost, warmupMost};
 ghost use Rattle.vad_memory.specs.DetectorState.{rateAt, wordAt, configAt, lengthsAt, rulesAt, streamAt, segmentAt, activeAt, trackAt, deskAt, keptAt, detectorAt, longEnough, readable, openWord, shownOf, numbersOf, singlesOf, numbersWritten, floatsWritten};
+use lists::put_numbers;
 use ranges::FRAME_MOST;
 use ranges::WARMUP_MOST;
 use vad_call::Tally;
@@ -300,17 +301,6 @@ fn singles_of(kept: Kept) -> [f32; 11]
     ]
 }
 
-fn put_numbers(to: &mut [u64], numbers: &[u64])
-    requires { ⌜ length (now numbers) ≤ length (now to) ⌝ }
-    ensures { λ _. ⌜ now (to .exit) ≡ sets (now (to .entry)) 0 (now (numbers .entry)) ⌝ }
-{
-    let mut i = 0;
-    while i < numbers.len() {
-        to[i] = numbers[i];
-        i += 1;
-    }
-}
-
 fn put_floats(to: &mut [f32], at: usize, numbers: &[f32])
     requires { ⌜ at + length (now numbers) ≤ length (now to) ⌝ }
     ensures { λ _. ⌜ now (to .exit) ≡ sets (now (to .entry)) at (now (numbers .entry)) ⌝ }
@@ -346,7 +336,7 @@ pub fn put_kept(numbers: &mut [u64], floats: &mut [f32], kept: Kept, tally: Tall
     ensures { λ _. ⌜ now (numbers .exit) ≡ numbersWritten kept tally (now (numbers .entry)) ⌝ }
     ensures { λ _. ⌜ now (floats .exit) ≡ sets (now (floats .entry)) singlesFirst (singlesOf kept) ⌝ }
 {
-    put_numbers(numbers, &numbers_of(kept, tally));
+    put_numbers(numbers, 0, &numbers_of(kept, tally));
     put_floats(floats, in_floats::SINGLES, &singles_of(kept));
 }
 

@@ -1,12 +1,10 @@
 -- Rows one after the other, what they count as talk, and their order. Assumes nothing.
 use mathlib.Core.Path.{_≡_, refl}
 use mathlib.Core.List.{List, [], _∷_, _++_, append-assoc, append-nil}
-use Prim.Native.Nat.{ℕ, suc, _+_, _-_, _*_, _≤_, _<_}
+use Prim.Native.Nat.{ℕ, _+_, _-_, _*_, _≤_, _<_}
 use native.Mathlib.Nat.{le-refl, le-trans, div-mul-le-self}
-use native.Mathlib.Numerals.{add-one}
 use native.Mathlib.Omega.{arith}
-use lib.ListN.{length, drop, getD, set, length-append, drop-of-length-le}
-use lib.Seq.{sets, drop-cons}
+use lib.ListN.{length, length-append}
 use Rattle.lists.specs.Every.{Every}
 use Rattle.vad_row.specs.Rows.{fieldsOf, rowWidth, roomOf, flat, reported, talkIn, talkOf, InOrder}
 use Rattle.vad_row.specs.declared.Row.{Row}
@@ -47,13 +45,6 @@ flat-none = refl
 pub flat-row : (r : Row) → flat (reported (OneRow r)) ≡ fieldsOf r
 unfolding flat reported
 flat-row r = append-nil (fieldsOf r)
-
--- ---- numbers put from a place on: one turn of the loop, and its end
-pub put-step : (l vs : List ℕ) (at i : ℕ) → i < length vs → sets (set l (at + i) (getD vs i 0)) (at + (i + 1)) (drop (i + 1) vs) ≡ sets l (at + i) (drop i vs)
-put-step l vs at i h = let on : at + (i + 1) ≡ suc (at + i) = omega arith in rw (on, add-one i, drop-cons vs i 0)
-
-pub put-end : (l vs : List ℕ) (at i : ℕ) → length vs ≤ i → sets l (at + i) (drop i vs) ≡ l
-put-end l vs at i h = rw (drop-of-length-le vs h)
 
 -- ---- talk
 

@@ -4,6 +4,7 @@ ghost use Prim.Native.Nat.{_+_, _≤_};
 ghost use lib.ListN.{length};
 ghost use lib.Seq.{sets};
 ghost use Rattle.vad_row.specs.Rows.{fieldsOf, flat, reported, talkIn, talkOf};
+use lists::put_numbers;
 
 // How many numbers a row has: a lent slice holds as many rows as its length divided by this.
 pub const ROW_FIELDS: usize = 7;
@@ -87,15 +88,4 @@ fn numbers_of(row: Row) -> [u64; ROW_FIELDS]
         row.loud_frames,
         row.mean_energy,
     ]
-}
-
-fn put_numbers(rows: &mut [u64], at: usize, numbers: &[u64])
-    requires { ⌜ at + length (now numbers) ≤ length (now rows) ⌝ }
-    ensures { λ _. ⌜ now (rows .exit) ≡ sets (now (rows .entry)) at (now (numbers .entry)) ⌝ }
-{
-    let mut i = 0;
-    while i < numbers.len() {
-        rows[at + i] = numbers[i];
-        i += 1;
-    }
 }

@@ -3,8 +3,7 @@ use mathlib.Core.Bool.{true}
 use native.Mathlib.Omega.{arith}
 use borrow.Author.Tests.{not-true, not-false}
 use Rattle.vad_memory.specs.DetectorState.{readable}
-use Rattle.vad_detector.specs.Run.{Reset}
-use Rattle.vad_door.specs.DetectorDoor.{answered}
+use Rattle.vad_detector.specs.Run.{Reset, answered}
 use Rattle.vad_door.proofs.Door.{readable-long, call-unread, reset-refused, reset-put}
 use borrow.Author.Needs.{needs}
 use Rattle.vad_door.proofs.reset.Statement.{statement}

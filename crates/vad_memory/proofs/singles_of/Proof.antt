@@ -9,7 +9,7 @@ segment-of-requires c κs = search needs
 
 returns : tie.Need-returns
 unfolding singlesOf
-returns c = rw (c .segment-of .ensures .1) refl
+returns c = rw (← c .segment-of .ensures .1) refl
 
 pub singles-of-spec : {M : Type 1} → statement M
 singles-of-spec =

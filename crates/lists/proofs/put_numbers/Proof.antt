@@ -5,33 +5,33 @@ use native.Mathlib.Omega.{arith}
 use lib.ListN.{length, drop, set, getD, length-set}
 use lib.Seq.{sets}
 use borrow.Author.Needs.{needs}
-use Rattle.vad_row.proofs.Laws.{put-step, put-end}
-use Rattle.vad_row.proofs.put_numbers.Statement.{statement}
-use Rattle.vad_row.proofs.put_numbers.Tie as tie
+use Rattle.lists.proofs.Stores.{put-step, put-end}
+use Rattle.lists.proofs.put_numbers.Statement.{statement}
+use Rattle.lists.proofs.put_numbers.Tie as tie
 
 abbrev Inv-loop : tie.InvT-loop
-Inv-loop rows₀ at numbers i₀ rows i = (i ≤ length numbers) × (length rows ≡ length rows₀) × (sets rows (at + i) (drop i numbers) ≡ sets rows₀ at numbers)
+Inv-loop to₀ at numbers i₀ to i = (i ≤ length numbers) × (length to ≡ length to₀) × (sets to (at + i) (drop i numbers) ≡ sets to₀ at numbers)
 
 abbrev μ-loop : tie.MeasureT-loop
-μ-loop rows₀ at numbers i₀ rows i = length numbers - i
+μ-loop to₀ at numbers i₀ to i = length numbers - i
 
 loop-holds : tie.Need-loop-holds Inv-loop μ-loop
 loop-holds c = (omega arith, refl, rw (add-zero (c .args .at)))
 
-mul-rows : tie.Need-mul-rows Inv-loop μ-loop
-mul-rows c = search needs
+mul-to : tie.Need-mul-to Inv-loop μ-loop
+mul-to c = search needs
 
-shared-slice-read-rows : tie.Need-shared-slice-read-rows Inv-loop μ-loop
-shared-slice-read-rows c = search needs
+shared-slice-read-to : tie.Need-shared-slice-read-to Inv-loop μ-loop
+shared-slice-read-to c = search needs
 
-add-rows : tie.Need-add-rows Inv-loop μ-loop
-add-rows c = search needs
+add-to : tie.Need-add-to Inv-loop μ-loop
+add-to c = search needs
 
-mul-rows-2 : tie.Need-mul-rows-2 Inv-loop μ-loop
-mul-rows-2 c = search needs
+mul-to-2 : tie.Need-mul-to-2 Inv-loop μ-loop
+mul-to-2 c = search needs
 
-slice-write-rows : tie.Need-slice-write-rows Inv-loop μ-loop
-slice-write-rows c = search needs
+slice-write-to : tie.Need-slice-write-to Inv-loop μ-loop
+slice-write-to c = search needs
 
 add-i : tie.Need-add-i Inv-loop μ-loop
 add-i c = search needs
@@ -45,10 +45,11 @@ loop-again c =
     let s = l .before .args in
     let xs = s .numbers .now in
     let i = l .loop .i in
-    let rows = l .loop .rows in
+    let to = l .loop .to in
     let inside : i < length xs = omega arith in
-    let long : length (set rows (s .at + i) (getD xs i 0)) ≡ length rows = simp length-set in
-    (omega arith, long ∙ l .loop .inv .1, put-step rows xs (s .at) i inside ∙ l .loop .inv .2)
+    let long : length (set to (s .at + i) (getD xs i 0)) ≡ length to = simp length-set in
+    let next : s .at + (i + 1) ≡ (s .at + i) + 1 = omega arith in
+    (omega arith, long ∙ l .loop .inv .1, rw next (put-step to xs (s .at + i) i 0 inside) ∙ l .loop .inv .2)
 
 same-length : tie.Need-same-length Inv-loop μ-loop
 same-length c = search needs
@@ -58,7 +59,7 @@ returns c =
     let l = c .before in
     let s = l .before .args in
     let over : length (s .numbers .now) ≤ l .loop .i = omega arith in
-    sym (put-end (l .loop .rows) (s .numbers .now) (s .at) (l .loop .i) over) ∙ l .loop .inv .2
+    sym (put-end (l .loop .to) (s .numbers .now) (s .at + l .loop .i) (l .loop .i) over) ∙ l .loop .inv .2
 
 pub put-numbers-spec : {M : Type 1} → statement M
 put-numbers-spec =
@@ -67,11 +68,11 @@ put-numbers-spec =
     Inv-loop
     μ-loop
     loop-holds
-    mul-rows
-    shared-slice-read-rows
-    add-rows
-    mul-rows-2
-    slice-write-rows
+    mul-to
+    shared-slice-read-to
+    add-to
+    mul-to-2
+    slice-write-to
     add-i
     loop-less
     loop-again
