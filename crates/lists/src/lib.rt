@@ -1,5 +1,5 @@
-// What several crates say of lists and of flags that are kept as words, in specs/, the laws that their proofs use, in proofs/, and the loop that all
-// numbers go through on their way into a lent slice.
+// What several crates say of lists and of flags that are kept as words, in specs/, the laws that their proofs use, in proofs/, and the loop by which
+// rows and a state's numbers go into a lent slice.
 ghost use mathlib.Core.Path.{_≡_};
 ghost use Prim.Native.Nat.{_+_, _≤_};
 ghost use lib.ListN.{length};

@@ -69,15 +69,17 @@ floatsAfter ns fs (k ∷ ks) = floatsAfter (callNumbers ns fs (answered k)) (cal
 
 -- ---- readings
 
--- what a reading carries: a position or a count as it is, the floor by its bits, an open segment by one more than its start, and 0 where none is open
+-- a position or a count
 unfoldable pub readAnswer : List ℕ → List Float → (VadDetector → Reading) → ℕ
 readAnswer ns fs read =
     let r = read (detectorAt ns fs) in
     cond (readable ns fs) (packed (r .refusal) (r .value)) 19
 
+-- the floor, by its bits
 abbrev pub floorWord : VadDetector → Reading
 floorWord d = record { refusal = floorRead d .refusal; value = toBits binary32 (floorRead d .value) }
 
+-- the open segment, by one more than its start; 0 where none is open
 abbrev pub startWord : SegmentReading → ℕ
 startWord r = cond (r .«is_open») (suc (r .«start_sample»)) 0
 
