@@ -68,7 +68,7 @@ static void lend(void) {
 
 static struct {
     bool sound;
-    uint64_t undecided, end, end_time, rows, talk;
+    uint64_t undecided, end, rows, talk;
 } run;
 
 static uint64_t read_value(uint64_t answer) {
@@ -83,10 +83,8 @@ static void seen(uint64_t reported) {
         memcpy(&row, rows + i * FALLOWCART_ROW_FIELDS, sizeof row);
         MUST(run.end <= row.start_sample && run.undecided <= row.start_sample && row.start_sample < row.end_sample);
         MUST(row.end_sample <= numbers[FALLOWCART_VAD_PROCESSED_SAMPLES]);
-        MUST(run.end_time <= row.start_time && row.start_time < row.end_time);
         MUST(row.score_total <= 1024 * row.loud_frames && 0 < row.loud_frames);
         run.end = row.end_sample;
-        run.end_time = row.end_time;
         run.rows++;
         run.talk += row.end_sample - row.start_sample;
     }

@@ -303,8 +303,8 @@ enum {
 };
 
 /*
- * Opens a filter: 27 where the memory is too short, which is then left as it is; else 0, or the first of refusals 20 to 24, where 24 is given too for fewer
- * than ten coefficients, whatever the order. A refusal leaves an all-zero state.
+ * Opens a filter: 27 where the memory is too short, which is then left as it is; else 24 where there are fewer than ten coefficients, 0, or the first of
+ * refusals 20 to 24. A refusal leaves an all-zero state.
  *
  * The coefficients are ten: b0, b1, b2, a1, a2 of the first stage, then of the second, which second order never reads. For a Butterworth high-pass, with
  * w = 2 * pi * cutoff / rate and s = sin(w) / (2 * q):

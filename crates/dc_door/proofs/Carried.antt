@@ -163,10 +163,9 @@ module _ (c : PreprocessingConfig) (l : Fit c.highpass_cutoff_hz) (m : Fit c.dc_
   unfolding open_of
   open_fits = either FilterFits (eqb (refusal_of c (coefficients_of (five_at xs 0)) (coefficients_of (five_at xs 5))) 0) _ nothing_open new_fits none_fits
 
-module _ (c : PreprocessingConfig) (l : Fit c.highpass_cutoff_hz) (m : Fit c.dc_bias_alpha) (xs : List Float) (k : T (all_fit xs)) where
   opened_fits : FilterFits (opened_of c xs).filter
-  unfolding opened_of all_fit
-  opened_fits = open_fits c l m (cond (ltb (length xs) 10) [] xs) (either (λ (ys : List Float). T (all_fit ys)) (ltb (length xs) 10) [] xs tt k)
+  unfolding opened_of
+  opened_fits = either (λ (p : Opened). FilterFits p.filter) (ltb (length xs) 10) (record { refusal = 24; filter = nothing_open }) (open_of c (five_at xs 0 ∷ five_at xs 5 ∷ [])) none_fits open_fits
 
   -- ---- through the door
 

@@ -1,24 +1,20 @@
 -- What an entry point answers and leaves, whether its state can be read or not, over plain lists. Assumes nothing.
 use mathlib.Core.Path.{◌≡◌, refl, sym, ap, ◌∙◌}
-use mathlib.Core.Bool.{Bool, true, false, not, cond}
+use mathlib.Core.Bool.{Bool, true, false, cond}
 use mathlib.Core.List.{List, [], ◌∷◌}
 use Prim.Native.Nat.{ℕ, ◌-◌, ◌≤◌, ◌<◌, ◌^◌}
 use native.Mathlib.Omega.{arith}
 use lib.Dec.{leb, eqb}
-use lib.ListN.{length, take, drop, replicate, length-drop}
+use lib.ListN.{length, take, drop, length-drop}
 use lib.Seq.{take-length}
-use lib.Ieee.{Float, nan, binary32, of_bits, to_bits, is_nan, le}
+use lib.Ieee.{Float, binary32, of_bits, to_bits, is_nan}
 use borrow.Author.Tests.{leb-true, lt-ltb, le-ltb}
 use Rattle.lists.proofs.Tests.{both}
-use Rattle.refusals.specs.Refusals.{refusal, bare, first_of}
+use Rattle.refusals.specs.Refusals.{refusal, first_of}
 use Rattle.refusals.specs.Answers.{packed}
-use Rattle.ranges.specs.Ranges.{rate_in}
-use Rattle.dc_state.specs.Settings.{cutoff_taken, below_half, alpha_taken, stage_taken, stages_taken, setting_refusals, refusal_of}
-use Rattle.dc_state.specs.declared.HighpassOrder.{HighpassOrder}
-use Rattle.dc_state.specs.declared.HighpassOrder.TheVariants.{SecondOrder, FourthOrder}
 use Rattle.dc_state.specs.declared.DcHighPassFilter.{DcHighPassFilter}
 use Rattle.dc_state.specs.declared.PreprocessingConfig.{PreprocessingConfig}
-use Rattle.dc_highpass.specs.Filter.{coefficients_of, open_of, nothing_open, check_of, process_of, output_after, reset_of, bias_read}
+use Rattle.dc_highpass.specs.Filter.{open_of, nothing_open, check_of, process_of, output_after, reset_of, bias_read}
 use Rattle.dc_highpass.specs.declared.VadContext.{VadContext}
 use Rattle.dc_highpass.specs.declared.Opened.{Opened}
 use Rattle.dc_highpass.specs.declared.Processed.{Processed}
@@ -57,33 +53,14 @@ module _ (xs : List Float) where
   pub five_rest : five_at (take (length xs - 5) (drop 5 xs)) 0 ≡ five_at xs 5
   five_rest = ap (λ (ys : List Float). five_at ys 0) rest ∙ five_drop xs
 
--- coefficients that were not lent are refused whatever the order
-none_taken : (o : HighpassOrder) → stages_taken o (coefficients_of (five_at [] 0)) (coefficients_of (five_at [] 5)) ≡ false
-unfolding stages_taken stage_taken coefficients_of le of_bits
-none_taken SecondOrder = refl
-none_taken FourthOrder = refl
-
 module _ (c : PreprocessingConfig) (xs : List Float) where
-  pub opened_few : (v : Float) → v ≡ nan → length xs < 10 → open_of c (replicate 5 v ∷ replicate 5 v ∷ []) ≡ opened_of c xs
+  pub opened_few : (f : DcHighPassFilter) → f ≡ nothing_open → length xs < 10 → record { refusal = 24; filter = f } ≡ opened_of c xs
   unfolding opened_of
-  opened_few v e h = rw (e, lt-ltb (length xs) 10 h)
+  opened_few f e h = rw (e, lt-ltb (length xs) 10 h)
 
   pub opened_all : 10 ≤ length xs → open_of c (five_at xs 0 ∷ five_at xs 5 ∷ []) ≡ opened_of c xs
   unfolding opened_of
   opened_all h = rw (le-ltb (length xs) 10 h)
-
-  -- too few coefficients: the settings are asked first, and then it is 24
-  pub few_refused : length xs < 10
-      → (opened_of c xs).refusal ≡ (first_of (
-      bare 20 (not (rate_in c.sample_rate_hz))
-      ∷ bare 21 (not (cutoff_taken c.highpass_cutoff_hz))
-      ∷ bare 22 (not (below_half c.highpass_cutoff_hz c.sample_rate_hz))
-      ∷ bare 23 (not (alpha_taken c.dc_bias_alpha))
-      ∷ bare 24 true
-      ∷ []
-      )).number
-  unfolding opened_of open_of refusal_of setting_refusals
-  few_refused h = rw (lt-ltb (length xs) 10 h, none_taken c.highpass_order) refl
 
   module _ (ws : List ℕ) where
     pub open_short : length ws < 25 → (27 ≡ open_answer c xs ws) × (ws ≡ open_state c xs ws)

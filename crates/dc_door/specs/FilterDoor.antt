@@ -3,7 +3,7 @@ use Rattle.std.specs.Prelude.{Bool, true, false, ◌&&◌, cond, List, [], ◌�
 use Rattle.std.specs.Float.{nan}
 use Rattle.refusals.specs.Answers.{packed}
 use Rattle.dc_state.specs.declared.PreprocessingConfig.{PreprocessingConfig}
-use Rattle.dc_highpass.specs.Filter.{open_of, process_of, output_after, reset_of, bias_read}
+use Rattle.dc_highpass.specs.Filter.{open_of, nothing_open, process_of, output_after, reset_of, bias_read}
 use Rattle.dc_highpass.specs.declared.VadContext.{VadContext}
 use Rattle.dc_highpass.specs.declared.VadContext.TheVariants.{Unlabelled, Silence, Speech}
 use Rattle.dc_highpass.specs.declared.Opened.{Opened}
@@ -25,9 +25,9 @@ settings_of cutoff rate alpha removal highpass fourth =
 abbrev pub five_at : List Float → ℕ → List Float
 five_at xs i = get_or xs i nan ∷ get_or xs (i + 1) nan ∷ get_or xs (i + 2) nan ∷ get_or xs (i + 3) nan ∷ get_or xs (i + 4) nan ∷ []
 
--- ten numbers, five a stage; fewer are as none, each a NaN, and refused as those are: by 24, after 20 to 23
+-- ten numbers, five a stage; too few of them are refused as coefficients are
 unfoldable pub opened_of : PreprocessingConfig → List Float → Opened
-opened_of c xs = let ys = cond (ltb (length xs) 10) [] xs in open_of c (five_at ys 0 ∷ five_at ys 5 ∷ [])
+opened_of c xs = cond (ltb (length xs) 10) (record { refusal = 24; filter = nothing_open }) (open_of c (five_at xs 0 ∷ five_at xs 5 ∷ []))
 
 unfoldable pub open_answer : PreprocessingConfig → List Float → List ℕ → ℕ
 open_answer c xs ws = cond (ltb (length ws) 25) 27 (opened_of c xs).refusal

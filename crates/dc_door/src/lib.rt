@@ -216,13 +216,15 @@ fn five(xs: &[f32]) -> [f32; 5]
     [xs[0], xs[1], xs[2], xs[3], xs[4]]
 }
 
-// The settings are asked before the coefficients, so a slice that is too short is opened with none: 24 refuses a NaN.
+// A slice that is too short has no coefficients to read: refused as they would be.
 fn opened(config: PreprocessingConfig, coefficients: &[f32]) -> Opened
     ensures { result ≡ opened_of config coefficients.now }
 {
     if coefficients.len() < 10 {
-        let none = [0.0 / 0.0; 5];
-        return dc_highpass::open(config, [none, none]);
+        return Opened {
+            refusal: 24,
+            filter: dc_highpass::nothing_open(),
+        };
     }
     let first = five(coefficients);
     let second = five(&coefficients[5..]);

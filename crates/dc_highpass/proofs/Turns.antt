@@ -1,5 +1,5 @@
 -- One turn of each loop, and the ways through an opening and the bias, over plain variables. Assumes nothing.
-use mathlib.Core.Path.{◌≡◌, refl, ap, ◌∙◌}
+use mathlib.Core.Path.{◌≡◌, refl}
 use mathlib.Core.Bool.{true, false}
 use mathlib.Core.List.{List, [], ◌∷◌}
 use Prim.Native.Nat.{ℕ, suc, ◌+◌, ◌-◌, ◌≤◌, ◌<◌}
@@ -7,21 +7,13 @@ use native.Mathlib.Numerals.{add-one}
 use native.Mathlib.Omega.{arith}
 use lib.ListN.{length, drop, get_or, drop_of_length-le}
 use lib.Seq.{drop-cons}
-use lib.Ieee.{Float, nan, binary32, add, sub, mul}
+use lib.Ieee.{Float, nan, binary32, add}
 use lib.Ieee.Scale.{finite}
-use Rattle.float.specs.Numbers.{one32}
-use Rattle.float.specs.Fused.{fused_of}
-use Rattle.float.specs.declared.Rounded.{Rounded}
-use Rattle.dc_state.specs.Biquad.{or_nan}
-use Rattle.dc_state.specs.Operations.{centred_of}
-use Rattle.dc_state.specs.declared.biquad.BiquadState.{BiquadState}
 use Rattle.dc_state.specs.declared.DcHighPassFilter.{DcHighPassFilter}
 use Rattle.dc_state.specs.declared.PreprocessingConfig.{PreprocessingConfig}
 use Rattle.dc_state.specs.Settings.{refusal_of}
-use Rattle.dc_highpass.specs.Filter.{coefficients_of, fresh_of, nothing_open, open_of, is_empty, listens, bias_of, biased_of, sum_from, mean_of, staged_by, pass_of, results_of, after_of}
-use Rattle.dc_highpass.specs.Inside.{remembering, passed_of}
+use Rattle.dc_highpass.specs.Filter.{coefficients_of, fresh_of, nothing_open, open_of, is_empty, listens, bias_of, biased_of, sum_from, pass_of, results_of, after_of}
 use Rattle.dc_highpass.specs.declared.VadContext.{VadContext}
-use Rattle.dc_highpass.specs.declared.Passed.{Passed}
 use borrow.Author.Tests.{ne_eqb}
 
 pub sum_end : (t : Float) (i : ℕ) (xs : List Float) → length xs ≤ i → sum_from t (drop i xs) ≡ t
@@ -58,27 +50,6 @@ module _ (i : ℕ) (xs : List Float) (h : i < length xs) where
     unfolding results_of
     results_stop d = rw (drop-cons xs i nan, d)
 
--- ---- one sample, in the memories that it changes
-
-pub own_memories : (f : DcHighPassFilter) → remembering f f.first.state f.second.state ≡ f
-unfolding remembering
-own_memories f = refl
-
-module _ (f : DcHighPassFilter) (x c : Float) (h : c ≡ centred_of f x) where
-  pub pass_on : f.config.enable_highpass ≡ true → (p : Passed) → p ≡ staged_by f.config.highpass_order f c → p ≡ pass_of f x
-  unfolding pass_of
-  pass_on t p e = simp (t, h, e)
-
-  pub pass_off : f.config.enable_highpass ≡ false → passed_of f f.first.state f.second.state c ≡ pass_of f x
-  unfolding pass_of passed_of remembering
-  pass_off t = simp (t, h)
-
--- what a sample leaves in a filter of which the memories are at hand
-pub turned : (f : DcHighPassFilter) (s t u v : BiquadState) (y x : Float) → passed_of (remembering f s t) u v y ≡ pass_of (remembering f s t) x
-    → (remembering f u v ≡ (pass_of (remembering f s t) x).filter) × (y ≡ (pass_of (remembering f s t) x).output)
-unfolding passed_of remembering
-turned f s t u v y x e = (ap (λ (p : Passed). p.filter) e, ap (λ (p : Passed). p.output) e)
-
 -- ---- the block's length
 
 pub empty_of : (xs : List Float) → length xs ≡ 0 → is_empty xs ≡ true
@@ -90,11 +61,6 @@ filled_of_lem [] h = absurd (h refl)
 filled_of_lem (x ∷ xs) h = refl
 
 -- ---- the bias, kept or new
-
--- from the fused answer, a number or the word that there is none
-pub bias_said : (alpha bias m : Float) (xs : List Float) → m ≡ mean_of xs → (r : Rounded) → r ≡ fused_of alpha bias (mul binary32 (sub binary32 one32 alpha) m) → or_nan r ≡ bias_of alpha bias xs
-unfolding bias_of
-bias_said alpha bias m xs e r h = rw (h, e)
 
 module _ (f : DcHighPassFilter) (xs : List Float) (label : VadContext) where
   pub bias_off : f.config.enable_dc_removal ≡ false → f ≡ biased_of f xs label

@@ -3,15 +3,15 @@ ghost use Rattle.std.specs.Prelude.{◌≡◌, ◌-◌, ◌≤◌, length, repli
 ghost use Rattle.std.proofs.lemmas.List.Edits.{sets};
 ghost use Rattle.std.specs.Float.Ieee.{neg};
 ghost use Rattle.float.specs.Numbers.{zero32};
+ghost use Rattle.dc_state.specs.Biquad.{stepped, heard};
 ghost use Rattle.dc_state.specs.Operations.{centred_of};
 ghost use Rattle.refusals.specs.Refusals.{refusal};
-ghost use Rattle.dc_highpass.specs.Filter.{coefficients_of, fresh_of, nothing_open, open_of, listens, sum_from, mean_of, bias_of, biased_of, staged_by, pass_of, results_of, check_of, ran_of, written_of, process_of, output_after, reset_of, bias_read};
-ghost use Rattle.dc_highpass.specs.Inside.{remembering, passed_of};
+ghost use Rattle.dc_highpass.specs.Filter.{coefficients_of, fresh_of, nothing_open, open_of, listens, sum_from, mean_of, biased_of, staged_by, pass_of, results_of, check_of, ran_of, written_of, process_of, output_after, reset_of, bias_read};
+ghost use Rattle.dc_highpass.specs.Inside.{passed_of};
 
 use dc_state::biquad::{Biquad, BiquadCoefficients, BiquadState};
 use dc_state::settings::{sound, validate};
 use dc_state::{DcHighPassFilter, HighpassOrder, PreprocessingConfig, biquad};
-use float::Rounded;
 use ranges::BLOCK_MOST;
 use refusals::Refusal;
 
@@ -44,18 +44,17 @@ pub struct Reading {
     pub value: f32,
 }
 
-// The filter after one sample, and the sample's result, which need not be finite: what the definitions say of a sample.
+// The filter after one sample, and the sample's result, which need not be finite.
 #[derive(Drop)]
 pub struct Passed {
     pub filter: DcHighPassFilter,
     pub output: f32,
 }
 
-// The same without what no sample changes: the stages' memories, and the result.
+// A stage after one sample, and its output.
 #[derive(Drop)]
-struct Turned {
-    pub first: BiquadState,
-    pub second: BiquadState,
+struct Moved {
+    pub stage: Biquad,
     pub output: f32,
 }
 
@@ -203,18 +202,6 @@ fn listening(context: VadContext) -> bool
     }
 }
 
-// The word that there is no such number becomes a NaN, as inside a stage. Once a block the enum costs nothing; a stage, whose sums wait for each other, takes
-// its numbers from `mul_add_or`.
-fn new_bias(alpha: f32, bias: f32, samples: &[f32]) -> f32
-    ensures { result ≡ bias_of alpha bias samples.now }
-{
-    let blend = float::mul_add(alpha, bias, (1.0 - alpha) * mean(samples));
-    match blend {
-        Rounded::Finite(x) => x,
-        Rounded::Nothing => 0.0 / 0.0,
-    }
-}
-
 // Speech must not leak into the estimate of the bias, so a block that is labelled speech leaves it alone.
 fn update_dc_bias(
     mut filter: DcHighPassFilter,
@@ -233,7 +220,7 @@ fn update_dc_bias(
         return filter;
     }
     let alpha = filter.config.dc_bias_alpha;
-    filter.dc_bias = new_bias(alpha, filter.dc_bias, samples);
+    filter.dc_bias = biquad::fused(alpha, filter.dc_bias, (1.0 - alpha) * mean(samples));
     filter
 }
 
@@ -246,63 +233,51 @@ fn centred(filter: DcHighPassFilter, sample: f32) -> f32
     sample
 }
 
-// The filter with these memories in its stages.
-fn with_memories(
-    filter: DcHighPassFilter,
-    first: BiquadState,
-    second: BiquadState,
-) -> DcHighPassFilter
-    ensures { result ≡ remembering filter first second }
+// One stage's `Biquad::process` by value.
+fn advance(stage: Biquad, input: f32) -> Moved
+    ensures { (result.stage ≡ stepped stage input) × (result.output ≡ heard stage input) }
 {
-    let one = filter.first;
-    let two = filter.second;
-    let config = filter.config;
-    let dc_bias = filter.dc_bias;
-    let coeffs = one.coeffs;
-    let others = two.coeffs;
-    DcHighPassFilter {
-        config,
-        first: Biquad {
-            coeffs,
-            state: first,
-        },
-        second: Biquad {
-            coeffs: others,
-            state: second,
-        },
-        dc_bias,
+    let one = biquad::step(stage.state, stage.coeffs, input);
+    let coeffs = stage.coeffs;
+    let state = one.state;
+    Moved {
+        stage: Biquad { coeffs, state },
+        output: one.output,
     }
 }
 
-fn turn_of(first: Biquad, second: Biquad, output: f32) -> Turned
-    ensures { (result.first ≡ first.state) × (result.second ≡ second.state) × (result.output ≡ output) }
+// The filter with new stages, beside the sample's result.
+fn with_stages(mut filter: DcHighPassFilter, first: Biquad, second: Biquad, output: f32) -> Passed
+    ensures { result ≡ passed_of filter first second output }
 {
-    let one = first.state;
-    let two = second.state;
-    Turned {
-        first: one,
-        second: two,
-        output,
-    }
+    let config = filter.config;
+    let dc_bias = filter.dc_bias;
+    filter = DcHighPassFilter {
+        config,
+        first,
+        second,
+        dc_bias,
+    };
+    Passed { filter, output }
 }
 
 // Through the stages in order.
-fn staged(order: HighpassOrder, filter: DcHighPassFilter, input: f32) -> Turned
-    ensures { passed_of filter result.first result.second result.output ≡ staged_by order filter input }
+fn staged(order: HighpassOrder, filter: DcHighPassFilter, input: f32) -> Passed
+    ensures { result ≡ staged_by order filter input }
 {
-    let one = biquad::advance(filter.first, input);
+    let first = advance(filter.first, input);
     match order {
-        HighpassOrder::SecondOrder => turn_of(one.stage, filter.second, one.output),
+        HighpassOrder::SecondOrder => with_stages(filter, first.stage, filter.second, first.output),
         HighpassOrder::FourthOrder => {
-            let two = biquad::advance(filter.second, one.output);
-            turn_of(one.stage, two.stage, two.output)
+            let second = advance(filter.second, first.output);
+            with_stages(filter, first.stage, second.stage, second.output)
         }
     }
 }
 
 // One sample: the bias taken off, then the stages.
-fn pass(filter: DcHighPassFilter, sample: f32) -> Turned
-    ensures { passed_of filter result.first result.second result.output ≡ pass_of filter sample }
+fn pass(filter: DcHighPassFilter, sample: f32) -> Passed
+    ensures { result ≡ pass_of filter sample }
 {
     let input = centred(filter, sample);
     if filter.config.enable_highpass {
@@ -310,7 +285,10 @@ fn pass(filter: DcHighPassFilter, sample: f32) -> Turned
         let order = config.highpass_order;
         return staged(order, filter, input);
     }
-    turn_of(filter.first, filter.second, input)
+    Passed {
+        filter,
+        output: input,
+    }
 }
 
 // 27, 15, 25 and 16, in this order: what is refused before anything is written.
@@ -369,11 +347,10 @@ fn answer(number: u32, carries: usize, filter: DcHighPassFilter) -> Processed
     }
 }
 
-// The samples in order; from one to the next goes what the stages remember, and nothing else. One without a finite result ends the block by 26: zeros stand
-// from its place on, and the state is the one given.
+// The samples in order. One without a finite result ends the block by 26: zeros stand from its place on, and the state is the one given.
 fn run(
     given: DcHighPassFilter,
-    filter: DcHighPassFilter,
+    mut filter: DcHighPassFilter,
     samples: &[f32],
     output: &mut [f32],
 ) -> Processed
@@ -381,23 +358,18 @@ fn run(
     ensures value { result ≡ ran_of given filter samples.now }
     ensures output_left { output.new ≡ written_of (results_of filter samples.now) (length samples.now) output.old }
 {
-    let one = filter.first;
-    let two = filter.second;
-    let mut first = one.state;
-    let mut second = two.state;
     let mut i = 0;
     while i < samples.len() {
-        let turned = pass(with_memories(filter, first, second), samples[i]);
-        if !float::is_finite(turned.output) {
+        let passed = pass(filter, samples[i]);
+        if !float::is_finite(passed.output) {
             clear(output, i, samples.len());
             return answer(26, i, given);
         }
-        output[i] = turned.output;
-        first = turned.first;
-        second = turned.second;
+        output[i] = passed.output;
+        filter = passed.filter;
         i += 1;
     }
-    answer(0, 0, with_memories(filter, first, second))
+    answer(0, 0, filter)
 }
 
 // Filters one block into the lent output. A refusal hands the state back; only 26 has written, and then zeros stand from its place to the block's length.

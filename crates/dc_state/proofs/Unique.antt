@@ -5,9 +5,8 @@ use Prim.Native.Nat.{ℕ}
 use lib.Ieee.{Float}
 use Rattle.float.specs.Fused.{fused_of}
 use Rattle.float.proofs.Unique.{only}
-use Rattle.dc_state.specs.Biquad.{or_nan, output_of, next_of, stepped, heard}
+use Rattle.dc_state.specs.Biquad.{or_nan, output_of, next_of}
 use Rattle.dc_state.specs.Settings.{refusal_of, sound_of}
-use Rattle.dc_state.specs.declared.biquad.Biquad.{Biquad}
 use Rattle.dc_state.specs.declared.biquad.BiquadCoefficients.{BiquadCoefficients}
 use Rattle.dc_state.specs.declared.biquad.BiquadState.{BiquadState}
 use Rattle.dc_state.specs.declared.PreprocessingConfig.{PreprocessingConfig}
@@ -25,7 +24,3 @@ fused_unique a b c r q = only
 -- the step, by value and lent: the memory and the output
 pub step_unique : (c : BiquadCoefficients) (s r q : BiquadState) (x y z : Float) → (r ≡ next_of c s x) × (y ≡ output_of c s x) → (q ≡ next_of c s x) × (z ≡ output_of c s x) → (r ≡ q) × (y ≡ z)
 step_unique c s r q x y z h k = (only h.0 k.0, only h.1 k.1)
-
--- the same of a whole stage
-pub advance_unique : (b r q : Biquad) (x y z : Float) → (r ≡ stepped b x) × (y ≡ heard b x) → (q ≡ stepped b x) × (z ≡ heard b x) → (r ≡ q) × (y ≡ z)
-advance_unique b r q x y z h k = (only h.0 k.0, only h.1 k.1)

@@ -21,8 +21,8 @@ stage_results b x =
     let s = b.state in
     let far = mul binary32 c.b2 s.x2 in
     let near = or_nan (fused_of c.b1 s.x1 far) in
-    let past = mul binary32 c.a2 s.y2 in
-    far ∷ near ∷ or_nan (fused_of c.b0 x near) ∷ past ∷ or_nan (fused_of c.a1 s.y1 past) ∷ output_of c s x ∷ []
+    let back = mul binary32 c.a2 s.y2 in
+    far ∷ near ∷ or_nan (fused_of c.b0 x near) ∷ back ∷ or_nan (fused_of c.a1 s.y1 back) ∷ output_of c s x ∷ []
 
 unfoldable pub stages_results : HighpassOrder → DcHighPassFilter → Float → List Float
 stages_results SecondOrder f x = stage_results f.first x

@@ -4,7 +4,7 @@ use Rattle.std.specs.Float.{binary32}
 use Rattle.std.specs.Float.Ieee.{of_bits, of_int, le, lt, div, neg}
 use Rattle.std.specs.Float.Ieee.Scale.{finite}
 use Rattle.refusals.specs.Refusals.{Case, bare, first_of}
-use Rattle.float.specs.Numbers.{zero32, one32, two32}
+use Rattle.float.specs.Numbers.{zero32, one32}
 use Rattle.ranges.specs.Ranges.{within, rate_in}
 use Rattle.dc_state.specs.declared.biquad.BiquadCoefficients.{BiquadCoefficients}
 use Rattle.dc_state.specs.declared.biquad.BiquadState.{BiquadState}
@@ -13,7 +13,10 @@ use Rattle.dc_state.specs.declared.HighpassOrder.TheVariants.{SecondOrder, Fourt
 use Rattle.dc_state.specs.declared.PreprocessingConfig.{PreprocessingConfig}
 use Rattle.dc_state.specs.declared.DcHighPassFilter.{DcHighPassFilter}
 
--- 20, by its bits
+-- 2 and 20, by their bits
+abbrev pub two : Float
+two = of_bits binary32 0x4000_0000
+
 abbrev pub twenty : Float
 twenty = of_bits binary32 0x41A0_0000
 
@@ -23,7 +26,7 @@ cutoff_taken cutoff = finite cutoff && le twenty cutoff
 
 -- 22: 'cutoff not below half the rate'
 abbrev pub below_half : Float → ℕ → Bool
-below_half cutoff rate = lt cutoff (div binary32 (of_int binary32 (pos rate)) two32)
+below_half cutoff rate = lt cutoff (div binary32 (of_int binary32 (pos rate)) two)
 
 -- 23: '`dc_bias_alpha` not in (0,1)'
 abbrev pub alpha_taken : Float → Bool
@@ -32,7 +35,7 @@ alpha_taken alpha = lt zero32 alpha && lt alpha one32
 -- 24: 'b0, b2 in [0,1], b1 in [-2,0], a1 in [-2,2], a2 in [-1,1]'
 unfoldable pub stage_taken : BiquadCoefficients → Bool
 stage_taken c =
-    within zero32 c.b0 one32 && within zero32 c.b2 one32 && within (neg two32) c.b1 zero32 && within (neg two32) c.a1 two32 && within (neg one32) c.a2 one32
+    within zero32 c.b0 one32 && within zero32 c.b2 one32 && within (neg two) c.b1 zero32 && within (neg two) c.a1 two && within (neg one32) c.a2 one32
 
 -- 'a stage in use': the order alone says which
 unfoldable pub stages_taken : HighpassOrder → BiquadCoefficients → BiquadCoefficients → Bool

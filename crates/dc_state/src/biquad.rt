@@ -1,7 +1,7 @@
 // One second-order stage: its coefficients, what it remembers, and one step of it.
 ghost use Rattle.std.specs.Prelude.{◌≡◌};
 ghost use Rattle.float.specs.Fused.{fused_of};
-ghost use Rattle.dc_state.specs.Biquad.{or_nan, output_of, next_of, stepped, heard};
+ghost use Rattle.dc_state.specs.Biquad.{or_nan, output_of, next_of};
 
 // Normalized so that a0 = 1.
 #[derive(Drop)]
@@ -34,15 +34,8 @@ pub struct Stepped {
     pub output: f32,
 }
 
-// A stage after one sample, and its output.
-#[derive(Drop)]
-pub struct Moved {
-    pub stage: Biquad,
-    pub output: f32,
-}
-
 // a * b + c, rounded once. A NaN where that is not a finite number: it goes through every later operation, so that one test at the sample's end finds it.
-fn fused(a: f32, b: f32, c: f32) -> f32
+pub fn fused(a: f32, b: f32, c: f32) -> f32
     ensures { result ≡ or_nan (fused_of a b c) }
 {
     float::mul_add_or(a, b, c, 0.0 / 0.0)
@@ -77,18 +70,5 @@ impl BiquadState {
         let stepped = step(*self, coeffs, input);
         *self = stepped.state;
         stepped.output
-    }
-}
-
-// One sample through a stage, whose memory is lent to `BiquadState::process`.
-pub fn advance(stage: Biquad, input: f32) -> Moved
-    ensures { (result.stage ≡ stepped stage input) × (result.output ≡ heard stage input) }
-{
-    let coeffs = stage.coeffs;
-    let mut state = stage.state;
-    let output = state.process(coeffs, input);
-    Moved {
-        stage: Biquad { coeffs, state },
-        output,
     }
 }

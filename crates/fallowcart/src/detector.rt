@@ -3,7 +3,7 @@ ghost use Rattle.std.specs.Prelude.{◌≡◌, length};
 ghost use Rattle.vad_config.specs.Config.{settings_of};
 ghost use Rattle.vad_detector.specs.Readings.{undecided_read, analyzed_read, rows_read, talk_read};
 ghost use Rattle.vad_detector.specs.Run.{Detect, Flush, Reset, answered};
-ghost use Rattle.vad_door.specs.DetectorDoor.{open_answer, open_numbers, open_floats, AcceptedOpening, call_answer, call_numbers, call_floats, detected_rows, flushed_rows, read_answer, floor_word, segment_word};
+ghost use Rattle.vad_door.specs.DetectorDoor.{open_answer, open_numbers, open_floats, call_answer, call_numbers, call_floats, detected_rows, flushed_rows, read_answer, floor_word, segment_word};
 
 use crate::config::collected;
 
@@ -32,7 +32,6 @@ pub extern "C" fn fallowcart_vad_open(
     ensures value { result ≡ open_answer (settings_of sample_rate frame_duration frame_overlap has_pre_emphasis pre_emphasis activation_ratio release_ratio min_speech_energy noise_smoothing energy_floor hangover_frames speech_padding min_speech_frames stream_start_time) window.now speech_floor_rise numbers.old floats.old }
     ensures numbers_left { numbers.new ≡ open_numbers (settings_of sample_rate frame_duration frame_overlap has_pre_emphasis pre_emphasis activation_ratio release_ratio min_speech_energy noise_smoothing energy_floor hangover_frames speech_padding min_speech_frames stream_start_time) window.now speech_floor_rise numbers.old floats.old }
     ensures floats_left { floats.new ≡ open_floats (settings_of sample_rate frame_duration frame_overlap has_pre_emphasis pre_emphasis activation_ratio release_ratio min_speech_energy noise_smoothing energy_floor hangover_frames speech_padding min_speech_frames stream_start_time) window.now speech_floor_rise numbers.old floats.old }
-    ensures accepted_opening { result ≡ 0 → AcceptedOpening (settings_of sample_rate frame_duration frame_overlap has_pre_emphasis pre_emphasis activation_ratio release_ratio min_speech_energy noise_smoothing energy_floor hangover_frames speech_padding min_speech_frames stream_start_time) window.now speech_floor_rise numbers.old floats.old }
 {
     let config = collected(
         sample_rate,

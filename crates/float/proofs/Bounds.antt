@@ -412,10 +412,10 @@ yields nan P t u p = absurd t
 yields (inf s) P t u p = absurd t
 yields (fin s m e) P t u p = (fin s m e, refl, u, p)
 
-pub no_number : {X : Type 0} (v : Float) → Nothing ≡ Finite v → X
+no_number : {X : Type 0} (v : Float) → Nothing ≡ Finite v → X
 no_number v p = let z : ◌≡◌ {A = ℕ} 0 1 = cc in absurd (omega arith)
 
-pub rounded_is : (x v : Float) → rounded x ≡ Finite v → x ≡ v
+rounded_is : (x v : Float) → rounded x ≡ Finite v → x ≡ v
 rounded_is nan v p = no_number v p
 rounded_is (inf s) v p = no_number v p
 rounded_is (fin s m e) v p = cc
@@ -426,7 +426,7 @@ rounded_finite (inf s) v p = no_number v p
 rounded_finite (fin s m e) v p = subst (λ (z : Float). T (finite z)) (rounded_is (fin s m e) v p) tt
 
 -- ---- x * y + z, rounded once
-pub fused_is : (x y z : Float) → T (finite x) → T (finite y) → T (finite z)
+fused_is : (x y z : Float) → T (finite x) → T (finite y) → T (finite z)
     → fused_of x y z ≡ rounded (sum binary32 (unlike (sign x) (sign y)) (num x * num y * den z) (sign z) (num z * (den x * den y)) (den x * den y * den z))
 unfolding fused_of
 fused_is nan y z p q r = absurd p

@@ -6,7 +6,7 @@ use lib.Ieee.Bits.{of_bits-to_bits}
 use lib.Ieee.Scale.{finite}
 use lib.Ieee.Exact.{HasValue, odd_sign}
 use borrow.Author.Tests.{eqb-false}
-use Rattle.float.specs.Fields.{field_of, sign_of, place_at, significand_at, M, Q}
+use Rattle.float.specs.Inside.{field_of, sign_of, place_at, significand_at, M, Q}
 
 -- finite: the field is below 255, and the value is the significand times 2 ^ (place - 150)
 abbrev pub Decoded : Float → ℕ → Type 0

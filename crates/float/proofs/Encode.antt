@@ -155,7 +155,7 @@ units_in s q k h = go (ltb (q * 2 ^ k) (2 ^ 277)) (lt→ltb (q * 2 ^ k) (2 ^ 277
     go true t = refl
     go false t = absurd t
 
-pub units_out : (s : Bool) (q k : ℕ) → 2 ^ 277 ≤ q * 2 ^ k → units binary32 s q k ≡ inf s
+units_out : (s : Bool) (q k : ℕ) → 2 ^ 277 ≤ q * 2 ^ k → units binary32 s q k ≡ inf s
 unfolding units
 units_out s q k h = cond_no (ltb (q * 2 ^ k) (2 ^ 277)) (odd 25 s q k 149) (inf s) (not_T (ltb (q * 2 ^ k) (2 ^ 277)) (λ t. lt_irrefl (2 ^ 277) (lt_of_le_of_lt h (ltb→lt (q * 2 ^ k) (2 ^ 277) t))))
 

@@ -3,8 +3,7 @@ use Rattle.std.proofs.Common.{◌≡◌, ℕ, ◌+◌, ◌*◌, ◌^◌, ◌<◌
 use lib.Ieee.{Float, nan, inf, fin, Format, binary32, unlike, up, down, sum, fits, to_bits}
 use lib.Ieee.Fits.{down_pos}
 use Rattle.float.specs.declared.Rounded.TheVariants.{Nothing}
-use Rattle.float.specs.Inside.{fused_bits_of}
-use Rattle.float.specs.Fields.{field_of, sign_of, M, Q}
+use Rattle.float.specs.Inside.{field_of, sign_of, fused_bits_of, M, Q}
 use Rattle.float.specs.Finite.{rounded}
 use Rattle.float.specs.Fused.{fused_of}
 use Rattle.float.proofs.Align.{sum_same}

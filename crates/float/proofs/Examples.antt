@@ -1,10 +1,9 @@
 -- Cases computed from the definitions: document 01's four, the signs of zero, what has no number, and what wrong ways of working would answer.
-use Rattle.std.proofs.Common.{◌≡◌, ℕ, ◌*◌, ◌^◌, ◌≤◌, true, false, T, ltb, pos, negsuc, refl, not-le_of_lt, arith, lit<, lit≤}
-use lib.Ieee.{Float, fin, binary32, binary64, neg, sum, round, fits, eq, ne, of_bits, to_bits}
+use Rattle.std.proofs.Common.{◌≡◌, ◌*◌, ◌^◌, true, false, pos, negsuc, refl}
+use lib.Ieee.{fin, binary32, binary64, sum, round, of_bits}
 use Rattle.float.specs.declared.Rounded.TheVariants.{Finite, Nothing}
 use Rattle.float.specs.Fused.{fused_of}
 use Rattle.float.specs.Root.{root_of, twice_root}
-use Rattle.float.specs.NearestSum.{distance, NoNearer, AsNear, NearestSum, TooLarge}
 use Rattle.float.specs.Whole.{round_of, ceil_of}
 
 -- ---- document 01's table
@@ -76,61 +75,6 @@ subnormal_to_24_digits = refl
 subnormal_twice : round binary32 false 2049 (2 * 2 ^ 149) ≡ fin false 1 (negsuc 138)
 unfolding round
 subnormal_twice = refl
-
--- ---- the nearest, by its definition
-beyond : {a b : ℕ} → a ≤ b → T (ltb b a) → ⊥
-beyond h t = not-le_of_lt (lit< t) h
-
-abbrev one : Float
-one = fin false 1 (pos 0)
-
-abbrev minus_one : Float
-minus_one = fin true 1 (pos 0)
-
--- the f32 after 1, 1 + 2^-23, whose pattern is odd
-abbrev after_one : Float
-after_one = fin false 8388609 (negsuc 22)
-
--- 2^-24, half the way to it
-abbrev half_way : Float
-half_way = fin false 1 (negsuc 23)
-
--- 1 * 1 + 2^-24 is a tie, and the odd one of the two is not the nearest
-tie : AsNear one one half_way after_one one
-tie = refl
-
-tie_not_odd : NearestSum one one half_way after_one → ⊥
-unfolding fits to_bits ne eq
-tie_not_odd h = let z : ◌≡◌ {A = ℕ} 1 0 = h.ties one tt tt tt tie in omega arith
-
--- so it is below zero, where 1 is far away: -1 * 1 - 2^-24
-tie_below : AsNear minus_one one (neg half_way) (neg after_one) minus_one
-unfolding neg
-tie_below = refl
-
-other_sign_farther : NoNearer minus_one one (neg half_way) one minus_one → ⊥
-unfolding neg
-other_sign_farther h = beyond h tt
-
--- document 01's first case is met exactly; in the second what f64 narrows to is farther than the answer
-cancels_exactly : distance (fin false 4097 (negsuc 11)) (fin false 4097 (negsuc 11)) (fin true 2049 (negsuc 10)) half_way ≡ 0
-cancels_exactly = refl
-
-narrowed_not_nearest : NearestSum (fin false 4097 (negsuc 11)) (fin false 4097 (negsuc 11)) (fin false 1 (negsuc 59)) (fin false 2049 (negsuc 10)) → ⊥
-unfolding fits
-narrowed_not_nearest h = beyond (h.least (fin false 8392705 (negsuc 22)) tt tt) tt
-
--- nor is the subnormal one that is rounded to 24 digits first
-subnormal_not_nearest : NearestSum (fin false 8392705 (negsuc 92)) (fin false 16777215 (negsuc 92)) (fin false 0 (pos 0)) (fin false 1 (negsuc 138)) → ⊥
-unfolding fits
-subnormal_not_nearest h = beyond (h.least (fin false 1025 (negsuc 148)) tt tt) tt
-
--- 2^128 is too large, the largest f32 and what it absorbs is not
-too_large : TooLarge (fin false 1 (pos 127)) (fin true 1 (pos 1)) (fin false 0 (pos 0))
-too_large = lit≤ tt
-
-not_too_large : TooLarge (fin false 16777215 (pos 104)) one (fin false 16777215 (pos 79)) → ⊥
-not_too_large h = beyond h tt
 
 -- ---- whole numbers: 2.5, the f32 below a half (a half added in f32 would make it 1), 9/8, and what is past the largest u64
 half_away : round_of (fin false 5 (negsuc 0)) ≡ 3

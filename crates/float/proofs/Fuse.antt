@@ -4,8 +4,7 @@ use native.Mathlib.Nat.{mul-mod_left}
 use lib.Pow.{shr_le}
 use lib.Ieee.{Format, binary32, round, sum}
 use borrow.Author.Tests.{eqb-false}
-use Rattle.float.specs.Inside.{jam_of, mag_of, neg_of}
-use Rattle.float.specs.Fields.{M, Q}
+use Rattle.float.specs.Inside.{M, Q, jam_of, mag_of, neg_of}
 use Rattle.float.proofs.Decode.{place_lt, normal_or_low}
 use Rattle.float.proofs.Sticky.{side}
 use Rattle.float.proofs.Align.{Jammed, aligned, sum_is}

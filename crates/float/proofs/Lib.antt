@@ -18,6 +18,5 @@ pub mod Wide
 pub mod Ties
 pub mod Settling
 pub mod NearestRoot
-pub mod NearestSum
 pub mod Unique
 pub mod Examples

@@ -1,13 +1,11 @@
 -- `round` gives the nearest value: no value of the format is nearer to the fraction. Nothing here is about roots.
-use Rattle.std.proofs.Common.{◌≡◌, ℕ, suc, ◌+◌, ◌-◌, ◌*◌, ◌/◌, ◌%◌, ◌^◌, ◌<◌, ◌≤◌, ◌⊎◌, sym, refl, ap, ◌∙◌, subst, ap₂, inl, inr, zero-le, le_trans, le_of_eq, lt_of_lt_of_le, lt_of_le_of_lt, le_of_lt, lt_irrefl, mul-le-mul_right, mod-lt, mul_assoc, suc-mul, mul_comm, div-lt_iff_lt-mul, add-mul, eq-zero-or-pos, lt_of_mul-lt-mul_right, eq-or-lt_of_le, mul-le-mul_left, mul-lt-mul_of_pos_right, mul-pos, div-add-mod', le-div_iff_mul-le, arith, pow_pos, pow_mono, pow-add}
+use Rattle.std.proofs.Common.{◌≡◌, ℕ, suc, ◌+◌, ◌-◌, ◌*◌, ◌/◌, ◌%◌, ◌^◌, ◌<◌, ◌≤◌, ◌⊎◌, sym, refl, ap, ◌∙◌, subst, ap₂, inl, inr, le_trans, le_of_eq, lt_of_lt_of_le, le_of_lt, lt_irrefl, mul-le-mul_right, mod-lt, mul_assoc, suc-mul, mul_comm, add-mul, eq-zero-or-pos, lt_of_mul-lt-mul_right, eq-or-lt_of_le, mul-le-mul_left, mul-lt-mul_of_pos_right, mul-pos, div-add-mod', le-div_iff_mul-le, arith, pow_pos, pow_mono, pow-add}
 use Prim.Native.Nat.{compare, Ordering}
 use native.Mathlib.Nat.{mul-sub}
 use lib.Ieee.{nearest}
-use lib.Ieee.Fits.{nearest-le}
 use lib.Ieee.Nearest.{closest, nearest-ge}
 use lib.Ieee.Order.{drop, kept}
-use lib.Ieee.Positive.{first_pos}
-use Rattle.float.proofs.Sticky.{Cmp, cmp, div_is, closest_half, side, drop_bounds}
+use Rattle.float.proofs.Sticky.{Cmp, cmp, div_is, side, drop_bounds}
 
 -- ---- how far `closest` can be from its fraction: half a unit
 pub closest_bounds : (n c : ℕ) → 0 < c → (2 * n ≤ 2 * (closest n c * c) + c) × (2 * (closest n c * c) ≤ 2 * n + c)
@@ -75,7 +73,7 @@ module _ (p n c q i : ℕ) (P : 0 < p) (C : 0 < c) (Q : q < 2 ^ p) where
   ]
 
   -- where digits are dropped, all p digits are kept, and the fraction is no less than the first such value
-  pub all_kept : 0 < drop p n c → (2 ^ (p - 1) ≤ kept p n c) × (2 ^ (p - 1) * 2 ^ drop p n c * c ≤ n)
+  all_kept : 0 < drop p n c → (2 ^ (p - 1) ≤ kept p n c) × (2 ^ (p - 1) * 2 ^ drop p n c * c ≤ n)
   all_kept g =
       let k = drop p n c in
       let low : 2 ^ (p - 1 + k) * c ≤ n = elim (drop_bounds p n c P C).1 [ inl z ↦ absurd (omega arith) | inr l ↦ l ] in
@@ -94,84 +92,31 @@ module _ (p n c q i : ℕ) (P : 0 < p) (C : 0 < c) (Q : q < 2 ^ p) where
         le_trans (le_of_eq (mul_assoc 2 (g * u) c ∙ ap (λ (x : ℕ). 2 * x) (sym e))) (le_trans b.1 (le_of_eq (ap (λ (x : ℕ). 2 * n + x) (mul_comm c u)))),
       )
 
-  -- a larger value is a unit away at least
-  unit_over : kept p n c * 2 ^ drop p n c < q * 2 ^ i → kept p n c * 2 ^ drop p n c + 2 ^ drop p n c ≤ q * 2 ^ i
-  unit_over l =
-      let u = 2 ^ drop p n c in
-      let g = kept p n c in
-      elim unit_or_low [
-        | inl b ↦ subst (λ (x : ℕ). g * u + u ≤ x) (sym b.1) (le_trans (le_of_eq (sym (suc-mul g u))) (mul-le-mul_right u (lt_of_mul-lt-mul_right u (subst (λ (x : ℕ). g * u < x) b.1 l))))
-        | inr b ↦ absurd (lt_irrefl (g * u) (lt_of_lt_of_le l (le_trans (le_of_lt b.1) (mul-le-mul_right u (all_kept b.0).0))))
-      ]
-
   pub nearest_over : kept p n c * 2 ^ drop p n c < q * 2 ^ i → 2 * n ≤ (kept p n c * 2 ^ drop p n c + q * 2 ^ i) * c
   nearest_over l =
-      let far : kept p n c * 2 ^ drop p n c + 2 ^ drop p n c ≤ q * 2 ^ i = unit_over l in
-      le_trans half_unit.0 (mul-le-mul_right c (omega arith))
-
-  -- so is a smaller one, or what is kept is the first value with all its digits, and the fraction is no less
-  unit_under : q * 2 ^ i < kept p n c * 2 ^ drop p n c → (q * 2 ^ i + 2 ^ drop p n c ≤ kept p n c * 2 ^ drop p n c) ⊎ (kept p n c * 2 ^ drop p n c * c ≤ n)
-  unit_under l =
       let u = 2 ^ drop p n c in
       let g = kept p n c in
-      elim unit_or_low [
-        | inl d ↦ inl (subst (λ (x : ℕ). x + u ≤ g * u) (sym d.1) (le_trans (le_of_eq (sym (suc-mul d.0 u))) (mul-le-mul_right u (lt_of_mul-lt-mul_right u (subst (λ (x : ℕ). x < g * u) d.1 l)))))
-        | inr d ↦ elim (eq-or-lt_of_le (all_kept d.0).0) [
-          | inl e ↦ inr (subst (λ (x : ℕ). x * u * c ≤ n) e (all_kept d.0).1)
-          | inr s ↦ inl (le_trans (omega (arith, d.1)) (le_trans (le_of_eq (sym (suc-mul (2 ^ (p - 1)) u))) (mul-le-mul_right u s)))
-        ]
-      ]
+      let gap : g * u + u ≤ q * 2 ^ i = elim unit_or_low [
+        | inl b ↦ subst (λ (x : ℕ). g * u + u ≤ x) (sym b.1) (le_trans (le_of_eq (sym (suc-mul g u))) (mul-le-mul_right u (lt_of_mul-lt-mul_right u (subst (λ (x : ℕ). g * u < x) b.1 l))))
+        | inr b ↦ absurd (lt_irrefl (g * u) (lt_of_lt_of_le l (le_trans (le_of_lt b.1) (mul-le-mul_right u (all_kept b.0).0))))
+      ] in
+      le_trans half_unit.0 (mul-le-mul_right c (omega arith))
 
   pub nearest_under : q * 2 ^ i < kept p n c * 2 ^ drop p n c → (kept p n c * 2 ^ drop p n c + q * 2 ^ i) * c ≤ 2 * n
   nearest_under l =
       let u = 2 ^ drop p n c in
       let g = kept p n c in
-      elim (unit_under l) [
-        | inl h ↦ le_trans (mul-le-mul_right c (omega arith)) (cancel (2 * (g * u)) u c (2 * n) (omega arith) half_unit.1)
-        | inr h ↦ le_trans (mul-le-mul_right c (omega (arith, le_of_lt l))) (le_trans (le_of_eq (mul_assoc 2 (g * u) c)) (mul-le-mul_left 2 h))
+      let b = q * 2 ^ i in
+      let far : b + u ≤ g * u → (g * u + b) * c ≤ 2 * n = λ h.
+      le_trans (mul-le-mul_right c (omega arith)) (cancel (2 * (g * u)) u c (2 * n) (omega arith) half_unit.1) in
+      elim unit_or_low [
+        | inl d ↦ far (subst (λ (x : ℕ). x + u ≤ g * u) (sym d.1) (le_trans (le_of_eq (sym (suc-mul d.0 u))) (mul-le-mul_right u (lt_of_mul-lt-mul_right u (subst (λ (x : ℕ). x < g * u) d.1 l)))))
+        | inr d ↦ elim (eq-or-lt_of_le (all_kept d.0).0) [
+          | inl e ↦ le_trans (mul-le-mul_right c (omega (arith, le_of_lt l))) (le_trans (le_of_eq (mul_assoc 2 (g * u) c)) (mul-le-mul_left 2 (subst (λ (x : ℕ). x * u * c ≤ n) e (all_kept d.0).1)))
+          | inr s ↦ far (le_trans (omega (arith, d.1)) (le_trans (le_of_eq (sym (suc-mul (2 ^ (p - 1)) u))) (mul-le-mul_right u s)))
+        ]
       ]
     where
       cancel : (x u c n : ℕ) → u ≤ x → x * c ≤ n + u * c → (x - u) * c ≤ n
       cancel x u c n h k =
           le_trans (le_of_eq (mul_comm (x - u) c ∙ mul-sub c x u)) (omega (arith, (le_trans (le_of_eq (mul_comm c x)) (le_trans k (le_of_eq (ap (λ (y : ℕ). n + y) (mul_comm u c)))))))
-
-  -- where another value is just as far from the fraction, what is kept is even
-  pub tie_even : 2 * n ≡ (kept p n c * 2 ^ drop p n c + q * 2 ^ i) * c → (kept p n c * 2 ^ drop p n c ≡ q * 2 ^ i → ⊥) → kept p n c % 2 ≡ 0
-  tie_even e d =
-      let u = 2 ^ drop p n c in
-      let g = kept p n c in
-      let b = q * 2 ^ i in
-      let U : 0 < c * u = mul-pos C (pow_pos (drop p n c)) in
-      let both : (g * u + b) * c ≡ g * u * c + b * c = add-mul (g * u) b c in
-      let one : 2 * (g * u) * c ≡ 2 * (g * u * c) = mul_assoc 2 (g * u) c in
-      let more : (2 * (g * u) + u) * c ≡ 2 * (g * u) * c + u * c = add-mul (2 * (g * u)) u c in
-      let unit : u * c ≡ c * u = mul_comm u c in
-      let all : g * u * c ≡ g * (c * u) = mul_assoc g u c ∙ ap (λ (x : ℕ). g * x) unit in
-      elim (side (g * u) b) [
-        | inl l ↦
-            let far : g * u * c + u * c ≤ b * c = le_trans (le_of_eq (sym (add-mul (g * u) u c))) (mul-le-mul_right c (unit_over l)) in
-            let half : n * 2 ≡ g * (c * u) * 2 + c * u = omega (arith, half_unit.0) in
-            let k : g ≡ g + g % 2 = closest_half n (c * u) g U half in
-            omega arith
-        | inr l ↦ elim (eq-or-lt_of_le l) [
-          | inl s ↦ absurd (d (sym s))
-          | inr s ↦ elim (unit_under s) [
-            | inl h ↦
-                let far : b * c + u * c ≤ g * u * c = le_trans (le_of_eq (sym (add-mul b u c))) (mul-le-mul_right c h) in
-                let some : 0 < g = first_pos g u (lt_of_le_of_lt zero-le s) in
-                let less : (g - 1) * (c * u) + c * u ≡ g * (c * u) = sym (suc-mul (g - 1) (c * u)) ∙ ap (λ (x : ℕ). x * (c * u)) (omega arith) in
-                let half : n * 2 ≡ (g - 1) * (c * u) * 2 + c * u = omega (arith, half_unit.1) in
-                let k : g ≡ g - 1 + (g - 1) % 2 = closest_half n (c * u) (g - 1) U half in
-                omega arith
-            | inr h ↦ absurd (lt_irrefl (b * c) (lt_of_lt_of_le (mul-lt-mul_of_pos_right s C) (omega arith)))
-          ]
-        ]
-      ]
-
--- ---- what is kept has at most p digits, or is 2 ^ p
-pub kept_most : (p n c : ℕ) → 0 < p → 0 < c → kept p n c ≤ 2 ^ p
-kept_most p n c P C =
-    let k = drop p n c in
-    le_trans (nearest-le (n / (c * 2 ^ k)) (compare (n % (c * 2 ^ k) * 2) (c * 2 ^ k)))
-    ((div-lt_iff_lt-mul {k = c * 2 ^ k} {x = n} {y = 2 ^ p} (mul-pos C (pow_pos k))).1
-    (lt_of_lt_of_le (drop_bounds p n c P C).0 (le_of_eq (ap (λ (x : ℕ). x * c) (pow-add 2 p k) ∙ mul_assoc (2 ^ p) (2 ^ k) c ∙ ap (λ (x : ℕ). 2 ^ p * x) (mul_comm (2 ^ k) c)))))

@@ -1,29 +1,30 @@
 -- The definition of the root is the nearest f32 to the root, and nothing else is.
-use Rattle.std.proofs.Common.{◌≡◌, ℕ, zero, suc, ◌+◌, ◌-◌, ◌*◌, ◌/◌, ◌%◌, ◌^◌, ◌<◌, ◌≤◌, true, false, T, ◌⊎◌, ℤ, sym, refl, ap, ◌∙◌, subst, ap₂, inl, inr, true≢false, zero-le, le_trans, le_of_eq, lt_of_lt_of_le, lt_of_le_of_lt, le_of_lt, lt_irrefl, mul-le-mul_right, zero-lt-suc, mul_assoc, mul_comm, div-lt_iff_lt-mul, add-mul, eq-zero-or-pos, mul-le-mul, add_comm, le_antisymm, lt_of_mul-lt-mul_right, eq-or-lt_of_le, mul-le-mul_left, mul-lt-mul_of_pos_right, mul-pos, one-mul, pow-suc, mul-one, mul_right_comm, le_of_mul-le-mul_right, mul_left_comm, arith, lit<, lit≤, ltb→lt, lt→ltb, pow_pos, pow_mono, pow-add, shl_lt}
+use Rattle.std.proofs.Common.{◌≡◌, ℕ, zero, suc, ◌+◌, ◌-◌, ◌*◌, ◌/◌, ◌%◌, ◌^◌, ◌<◌, ◌≤◌, true, false, T, ltb, ◌⊎◌, ℤ, sym, refl, ap, ◌∙◌, subst, ap₂, inl, inr, true≢false, zero-le, le_trans, le_of_eq, lt_of_lt_of_le, lt_of_le_of_lt, le_of_lt, lt_irrefl, mul-le-mul_right, zero-lt-suc, mul_assoc, mul_comm, div-lt_iff_lt-mul, add-mul, eq-zero-or-pos, mul-le-mul, add_comm, le_antisymm, lt_of_mul-lt-mul_right, eq-or-lt_of_le, mul-le-mul_left, mul-lt-mul_of_pos_right, mul-pos, one-mul, pow-suc, mul-one, mul_right_comm, le_of_mul-le-mul_right, mul_left_comm, arith, lit<, lit≤, ltb→lt, lt→ltb, pow_pos, pow_mono, pow-add, shl_lt}
+use Prim.Native.Nat.{compare}
 use native.Mathlib.Nat.{eq_of_mul-eq-mul_right, pow-succ'}
 use lib.Pow.{pow-lt}
 use lib.Ieee.{Float, nan, inf, fin, binary32, up, down, size, round, fits, lt, of_bits, to_bits}
 use lib.Ieee.Digits.{Equals, size-le}
-use lib.Ieee.Fits.{round-fits, down_pos}
+use lib.Ieee.Fits.{round-fits, nearest-le, down_pos}
 use lib.Ieee.Bits.{of_bits-to_bits}
 use lib.Ieee.Exact.{HasValue, round_exact}
 use lib.Ieee.Order.{drop, kept}
-use lib.Ieee.Scale.{finite, grid, overflow, round_val}
+use lib.Ieee.Scale.{grid, overflow, round_val}
 use lib.Ieee.Positive.{num, den, positive, den_pos}
 use Rattle.float.specs.declared.Rounded.TheVariants.{Finite}
-use Rattle.float.specs.Fields.{field_of, place_at, M, Q}
+use Rattle.float.specs.Inside.{field_of, place_at, M, Q}
 use Rattle.float.specs.Finite.{rounded}
 use Rattle.float.specs.Root.{integer_root, twice_root, root_of}
 use Rattle.float.specs.Nearest.{not_negative, total, scale, RootBelowMiddle, RootAboveMiddle, NearestRoot}
-use Rattle.float.proofs.Sticky.{side}
+use Rattle.float.proofs.Sticky.{side, drop_bounds}
 use Rattle.float.proofs.Encode.{to_bits_val, Signed}
 use Rattle.float.proofs.Decode.{decoded, significand_lt, place_lt}
 use Rattle.float.proofs.Roots.{Root, integer_root_lem, twice_exact, twice_cut, square_back}
 use Rattle.float.proofs.RootExact.{number, not_zero}
-use Rattle.float.proofs.Near.{nearest_over, nearest_under, kept_most}
+use Rattle.float.proofs.Near.{nearest_over, nearest_under}
 
--- ---- a finite f32 is q * 2 ^ i smallest values, with q of at most 24 digits
-abbrev pub Units : Float → ℕ → ℕ → Type 0
+-- ---- a finite f32 that is not negative is q * 2 ^ i smallest values, with q of at most 24 digits
+abbrev Units : Float → ℕ → ℕ → Type 0
 Units z q i = (q < 2 ^ 24) × (num z * 2 ^ 149 ≡ q * 2 ^ i * den z)
 
 place_pos : (b : ℕ) → 0 < Q b
@@ -33,24 +34,17 @@ place_pos b = go (field_of b)
     go zero = zero-lt-suc 0
     go (suc x) = zero-lt-suc x
 
-pub own_units : (z : Float) → T (fits binary32 z) → T (finite z) → num z * 2 ^ 149 ≡ M (to_bits binary32 z) * 2 ^ (Q (to_bits binary32 z) - 1) * den z
-own_units nan t p = absurd p
-own_units (inf s) t p = absurd p
-own_units (fin s m e) t p =
-    let b = to_bits binary32 (fin s m e) in
-    let d = decoded (fin s m e) t in
-    eq_of_mul-eq-mul_right 2 (pow_pos 1) (m * up e * 2 ^ 149) (M b * 2 ^ (Q b - 1) * down e) (mul_assoc (m * up e) (2 ^ 149) 2 ∙ ap (λ (k : ℕ). m * up e * k) (sym (pow-suc 2 149)) ∙ d.2 ∙ ap (λ (k : ℕ). M b * k * down e) (step (Q b) (place_pos b)) ∙ ap (λ (k : ℕ). k * down e) (sym (mul_assoc (M b) (2 ^ (Q b - 1)) 2)) ∙ mul_right_comm (M b * 2 ^ (Q b - 1)) 2 (down e))
+units_of : (z : Float) → T (fits binary32 z) → T (not_negative z) → (q : ℕ) × (i : ℕ) × Units z q i
+units_of nan t p = absurd p
+units_of (inf s) t p = absurd p
+units_of (fin true m e) t p = absurd p
+units_of (fin false m e) t p =
+    let b = to_bits binary32 (fin false m e) in
+    let d = decoded (fin false m e) t in
+    (M b, Q b - 1, (significand_lt b, eq_of_mul-eq-mul_right 2 (pow_pos 1) (m * up e * 2 ^ 149) (M b * 2 ^ (Q b - 1) * down e) (mul_assoc (m * up e) (2 ^ 149) 2 ∙ ap (λ (k : ℕ). m * up e * k) (sym (pow-suc 2 149)) ∙ d.2 ∙ ap (λ (k : ℕ). M b * k * down e) (step (Q b) (place_pos b)) ∙ ap (λ (k : ℕ). k * down e) (sym (mul_assoc (M b) (2 ^ (Q b - 1)) 2)) ∙ mul_right_comm (M b * 2 ^ (Q b - 1)) 2 (down e))))
   where
     step : (k : ℕ) → 0 < k → 2 ^ k ≡ 2 ^ (k - 1) * 2
     step k h = ap (λ (x : ℕ). 2 ^ x) (omega arith) ∙ pow-suc 2 (k - 1)
-
-pub units_of : (z : Float) → T (fits binary32 z) → T (finite z) → (q : ℕ) × (i : ℕ) × Units z q i
-units_of z t p = let b = to_bits binary32 z in (M b, Q b - 1, (significand_lt b, own_units z t p))
-
-plus_finite : (z : Float) → T (not_negative z) → T (finite z)
-plus_finite nan p = absurd p
-plus_finite (inf s) p = absurd p
-plus_finite (fin s m e) p = tt
 
 -- ---- what twice the root, with its sticky digit, says of a whole number s
 twice_le : (n s : ℕ) → twice_root n ≤ 2 * s → n ≤ s * s
@@ -216,7 +210,7 @@ root_under n h =
     let w_lt : w < 2 ^ 216 = lt_of_le_of_lt (twice_at_most n) (lt_of_lt_of_le (odd_lt (integer_root n) (2 ^ 215) r_lt) (le_of_eq (sym (pow-suc 2 215)))) in
     let a_lt : a < 2 ^ 216 * c = lt_of_lt_of_le (mul-lt-mul_of_pos_right w_lt (pow_pos 149)) (mul-le-mul_left (2 ^ 216) (pow_mono {i = 149} {j = 151} (lit≤ tt))) in
     let k_le : k ≤ 192 = small (size (a / c)) (size-le (a / c) 216 ((div-lt_iff_lt-mul {k = c} {x = a} {y = 2 ^ 216} (pow_pos 151)).1 a_lt)) in
-    let q_le : kept 24 a c ≤ 2 ^ 24 = kept_most 24 a c (lit< tt) (pow_pos 151) in
+    let q_le : kept 24 a c ≤ 2 ^ 24 = le_trans (nearest-le (a / (c * 2 ^ k)) (compare (a % (c * 2 ^ k) * 2) (c * 2 ^ k))) ((div-lt_iff_lt-mul {k = c * 2 ^ k} {x = a} {y = 2 ^ 24} (mul-pos (pow_pos 151) (pow_pos k))).1 (lt_of_lt_of_le (drop_bounds 24 a c (lit< tt) (pow_pos 151)).0 (le_of_eq (ap (λ (x : ℕ). x * c) (pow-add 2 24 k) ∙ mul_assoc (2 ^ 24) (2 ^ k) c ∙ ap (λ (x : ℕ). 2 ^ 24 * x) (mul_comm (2 ^ k) c))))) in
     lt_of_le_of_lt (mul-le-mul q_le (pow_mono {i = k} {j = 192} k_le)) (lt_of_le_of_lt (le_of_eq (sym (pow-add 2 24 192))) (pow-lt {i = 216} {j = 277} (lit< tt)))
   where
     odd_lt : (r p : ℕ) → r < p → 2 * r + 1 < p * 2
@@ -268,12 +262,12 @@ root_nearest x t p =
       record {
         held = round-fits binary32 false w (2 ^ 151);
         plus = P;
-        larger = λ z f q l.
-            let u = units_of z f (plus_finite z q) in
+        over = λ z f q l.
+            let u = units_of z f q in
             let b = u.0 * 2 ^ u.1 in
             below_middle x y z n g b N.0 Y u.2.1 (twice_le n (g + b) (over_units w g b (nearest_over 24 (w * 2 ^ 149) (2 ^ 151) u.0 u.1 (lit< tt) (pow_pos 151) u.2.0 (less_units y z g b P q Y u.2.1 l))));
-        smaller = λ z f q l.
-            let u = units_of z f (plus_finite z q) in
+        under = λ z f q l.
+            let u = units_of z f q in
             let b = u.0 * 2 ^ u.1 in
             above_middle x y z n g b N.0 Y u.2.1 (twice_ge n (g + b) (under_units w g b (nearest_under 24 (w * 2 ^ 149) (2 ^ 151) u.0 u.1 (lit< tt) (pow_pos 151) u.2.0 (less_units z y b g q P u.2.1 Y l))));
       },
@@ -380,14 +374,14 @@ not_below x y z t p Y Z a b A B l =
     let N = (number_of_lem x t p).1 in
     let o = N.2 in
     let s = a + b in
-    let lo : n ≤ s * s = below_back x y z n a b N.0 A B (Y.larger z Z.held Z.plus (units_less y z a b Y.plus Z.plus A B l)) in
-    let hi : s * s ≤ n = subst (λ (k : ℕ). k * k ≤ n) (add_comm b a) (above_back x z y n b a N.0 B A (Z.smaller y Y.held Y.plus (units_less y z a b Y.plus Z.plus A B l))) in
+    let lo : n ≤ s * s = below_back x y z n a b N.0 A B (Y.over z Z.held Z.plus (units_less y z a b Y.plus Z.plus A B l)) in
+    let hi : s * s ≤ n = subst (λ (k : ℕ). k * k ≤ n) (add_comm b a) (above_back x z y n b a N.0 B A (Z.under y Y.held Y.plus (units_less y z a b Y.plus Z.plus A B l))) in
     let e : s * s ≡ n = le_antisymm hi lo in
     let big : 2 ^ 12 ≤ s = le_of_lt (square_back (2 ^ 12) s (lt_of_lt_of_le (pow-lt {i = 24} {j = o.1} (far o.1 o.4)) (le_trans (le_of_eq (sym (one-mul (2 ^ o.1)))) (le_trans (mul-le-mul_right (2 ^ o.1) o.3) (le_of_eq (sym o.6 ∙ sym e)))))) in
     let top : s < 2 ^ 215 = square_back s (2 ^ 215) (lt_of_le_of_lt (le_of_eq e) (lt_of_lt_of_le (number_lt n o.0 o.1 o.2 o.5 o.6) (le_of_eq (pow-add 2 215 215)))) in
     let m = middle s (short_root o.1 s o.0 (e ∙ o.6) o.2) big top in
     let h = m.1 in
-    let near : n ≤ (a + h) * (a + h) = below_back x y m.0 n a h N.0 A m.4 (Y.larger m.0 m.2 m.3 (units_less y m.0 a h Y.plus m.3 A m.4 (left a b h m.5 l))) in
+    let near : n ≤ (a + h) * (a + h) = below_back x y m.0 n a h N.0 A m.4 (Y.over m.0 m.2 m.3 (units_less y m.0 a h Y.plus m.3 A m.4 (left a b h m.5 l))) in
     beyond n s (a + h) near (right a b h m.5 l) e
   where
     beyond : (n s k : ℕ) → n ≤ k * k → k < s → s * s ≡ n → ⊥
@@ -404,8 +398,8 @@ not_below x y z t p Y Z a b A B l =
 
 pub nearest_unique : (x y z : Float) → T (fits binary32 x) → T (positive x) → NearestRoot x y → NearestRoot x z → y ≡ z
 nearest_unique x y z t p Y Z =
-    let u = units_of y Y.held (plus_finite y Y.plus) in
-    let v = units_of z Z.held (plus_finite z Z.plus) in
+    let u = units_of y Y.held Y.plus in
+    let v = units_of z Z.held Z.plus in
     let a = u.0 * 2 ^ u.1 in
     let b = v.0 * 2 ^ v.1 in
     elim (side a b) [

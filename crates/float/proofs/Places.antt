@@ -29,7 +29,7 @@ sub_add a b c d = elim (side a b) [
   ]
 ]
 
-pub neg_pos : (n : ℕ) → neg_ℤ (pos n) ≡ sub_ℕ 0 n
+neg_pos : (n : ℕ) → neg_ℤ (pos n) ≡ sub_ℕ 0 n
 neg_pos zero = refl
 neg_pos (suc n) = sym (at_below 0 (suc n) (omega arith) ∙ ap negsuc (omega arith))
 

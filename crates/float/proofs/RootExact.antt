@@ -4,7 +4,7 @@ use mathlib.Core.Bool.{false≢true}
 use lib.Ieee.{Float, nan, inf, fin, binary32, up, down, round, fits, to_bits}
 use lib.Ieee.Fits.{up_pos, down_pos}
 use Rattle.float.specs.declared.Rounded.TheVariants.{Finite, Nothing}
-use Rattle.float.specs.Fields.{field_of, sign_of, M, Q}
+use Rattle.float.specs.Inside.{field_of, sign_of, M, Q}
 use Rattle.float.specs.Finite.{rounded}
 use Rattle.float.specs.Root.{twice_root, root_of}
 use Rattle.float.proofs.Decode.{Decoded, decoded}

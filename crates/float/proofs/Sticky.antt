@@ -67,13 +67,6 @@ closest_up a b p B lo hi =
     let r : p * b + a % b ≡ a = ap (λ (x : ℕ). x * b + a % b) (sym q) ∙ div-add-mod' a b in
     ap (λ (x : ℕ). nearest x (compare (a % b * 2) b)) q ∙ nearest_gt p (a % b * 2) b (omega arith)
 
--- a / b is the half above p
-pub closest_half : (a b p : ℕ) → 0 < b → a * 2 ≡ p * b * 2 + b → closest a b ≡ p + p % 2
-closest_half a b p B e =
-    let q : a / b ≡ p = div_is a b p B (omega arith) (omega arith) in
-    let r : p * b + a % b ≡ a = ap (λ (x : ℕ). x * b + a % b) (sym q) ∙ div-add-mod' a b in
-    ap (λ (x : ℕ). nearest x (compare (a % b * 2) b)) q ∙ nearest_eq p (a % b * 2) b (omega arith)
-
 -- ---- The sticky lemma. n / c lies strictly between the even numbers 2 * h and 2 * h + 2, as 2 * h + 1 does. To a multiple of 4 * t both round alike.
 pub side : (g t : ℕ) → (g < t) ⊎ (t ≤ g)
 side g t = go (ltb g t) (ltb→lt g t) (nltb→le g t)

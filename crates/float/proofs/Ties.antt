@@ -8,8 +8,7 @@ use lib.Ieee.Scale.{finite}
 use Rattle.float.specs.declared.Rounded.TheVariants.{Finite}
 use Rattle.float.specs.Finite.{rounded}
 use Rattle.float.specs.Fused.{fused_of}
-use Rattle.float.specs.Inside.{mag_of, neg_of}
-use Rattle.float.specs.Fields.{field_of, significand_at, M, Q}
+use Rattle.float.specs.Inside.{field_of, significand_at, M, Q, mag_of, neg_of}
 use Rattle.float.specs.Settled.{exact_of}
 use Rattle.float.proofs.Sticky.{side, nearest_eq, closest_down, pow_lt_back, Dropped}
 use Rattle.float.proofs.Decode.{decoded, significand_lt}

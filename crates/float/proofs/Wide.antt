@@ -9,8 +9,7 @@ use Rattle.float.specs.declared.Rounded.{Rounded}
 use Rattle.float.specs.declared.Rounded.TheVariants.{Finite}
 use Rattle.float.specs.Finite.{rounded}
 use Rattle.float.specs.Fused.{fused_of}
-use Rattle.float.specs.Inside.{mag_of, neg_of, Narrowed}
-use Rattle.float.specs.Fields.{M, Q}
+use Rattle.float.specs.Inside.{M, Q, mag_of, neg_of, Narrowed}
 use Rattle.float.proofs.Decode.{Decoded, decoded, significand_lt, place_lt}
 use Rattle.float.proofs.Align.{sum_is, sum_same}
 use Rattle.float.proofs.Exact.{product_of}

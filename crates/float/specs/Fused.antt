@@ -1,4 +1,4 @@
--- a * b + c, rounded once: document 01's fused multiply-add. What this text comes to is said without rounding in NearestSum, and proved.
+-- a * b + c, rounded once: document 01's fused multiply-add.
 use Rattle.std.specs.Prelude.{◌*◌, Float}
 use Rattle.std.specs.Float.{nan, inf, fin, binary32}
 use Rattle.std.specs.Float.Ieee.{unlike, up, down, sum}

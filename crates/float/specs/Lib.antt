@@ -3,8 +3,6 @@ pub mod Finite
 pub mod Fused
 pub mod Root
 pub mod Nearest
-pub mod NearestSum
 pub mod Whole
-pub mod Fields
 pub mod Inside
 pub mod Settled

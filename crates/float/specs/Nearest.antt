@@ -29,5 +29,5 @@ RootAboveMiddle x y z = total y z * total y z * den x ≤ 4 * num x * (scale y z
 pub record NearestRoot (x y : Float) : Type 0 where
   pub held : T (fits binary32 y)
   pub plus : T (not_negative y)
-  pub larger : (z : Float) → T (fits binary32 z) → T (not_negative z) → T (lt y z) → RootBelowMiddle x y z
-  pub smaller : (z : Float) → T (fits binary32 z) → T (not_negative z) → T (lt z y) → RootAboveMiddle x y z
+  pub over : (z : Float) → T (fits binary32 z) → T (not_negative z) → T (lt y z) → RootBelowMiddle x y z
+  pub under : (z : Float) → T (fits binary32 z) → T (not_negative z) → T (lt z y) → RootAboveMiddle x y z

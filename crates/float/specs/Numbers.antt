@@ -1,4 +1,4 @@
--- 0.0, 1.0 and 2.0 of f32, by their bits.
+-- 0.0 and 1.0 of f32, by their bits.
 use Rattle.std.specs.Prelude.{from_bits, Float}
 use Rattle.std.specs.Float.{binary32}
 
@@ -7,6 +7,3 @@ zero32 = from_bits binary32 0
 
 abbrev pub one32 : Float
 one32 = from_bits binary32 0x3F80_0000
-
-abbrev pub two32 : Float
-two32 = from_bits binary32 0x4000_0000

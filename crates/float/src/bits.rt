@@ -1,7 +1,7 @@
 // A float taken apart: its sign, its significand M and its place Q, with |x| = M * 2^(Q - 150), M < 2^24 and 1 ≤ Q ≤ 254.
 ghost use Rattle.std.specs.Prelude.{◌≡◌};
 ghost use Rattle.std.proofs.Math.IntN.{sub_ℕ};
-ghost use Rattle.float.specs.Fields.{field_of, sign_of, M, Q};
+ghost use Rattle.float.specs.Inside.{field_of, sign_of, M, Q};
 
 // The exponent's field: 255 where the float is not finite, and 0 where it is zero or subnormal.
 pub(crate) fn field(bits: u32) -> u32

@@ -2,9 +2,9 @@
 use mathlib.Core.Path.{◌≡◌, refl, sym, ap, subst}
 use mathlib.Core.Bool.{true≢false}
 use mathlib.Core.List.{List, [], ◌∷◌}
-use Prim.Native.Nat.{ℕ, ◌≤◌}
+use Prim.Native.Nat.{◌≤◌}
 use native.Mathlib.Omega.{arith}
-use lib.ListN.{length, get_or}
+use lib.ListN.{length}
 use lib.Ieee.{of_int, add, mul, div, round}
 use Rattle.float.specs.Whole.{round_of}
 use Rattle.lists.specs.Every.{Every}
@@ -13,13 +13,13 @@ use Rattle.ranges.specs.Ranges.{rate_in}
 use Rattle.vad_config.specs.Domain.{duration_in}
 use Rattle.vad_config.specs.Lengths.{frame_samples, frame_length_of, seconds_of, padding_samples_of}
 use Rattle.vad_config.specs.Settings.{frame_of, padding_of}
-use Rattle.vad_row.specs.Rows.{fields_of, row_width, flat, row_at, rows_at, talk_in, talk_of, InOrder, InTime}
+use Rattle.vad_row.specs.Rows.{talk_in, talk_of, InOrder}
 use Rattle.vad_segments.specs.Judging.{count_of}
 use Rattle.vad_row.specs.declared.Row.{Row}
-use Rattle.promises.specs.Log.{Seen, rows_seen}
-use Rattle.promises.specs.Demand.{AtEachAfter, AtEach, sound_in, rows_in, due_in, louds_in, flushed_in, Within, NotBefore, Onward, warmed_up, Trails, one_loud, LatelyLoud, Written, Counted, Never19, Promised}
+use Rattle.promises.specs.Log.{Seen}
+use Rattle.promises.specs.Demand.{AtEachAfter, AtEach, sound_in, rows_in, louds_in, flushed_in, Within, NotBefore, Onward, warmed_up, Trails, one_loud, LatelyLoud, Counted, Never19, Promised}
 use Rattle.promises.proofs.Example.{settings, window, rise, calls, run, shown}
-use Rattle.promises.proofs.Wrong.{changed_after, changed, answers, reads, counting, writes, last_rows, writes_twice, in_seconds, whole_seconds, longer, pads_on, forgets_padding, falls_back, stays_at_zero, last_open, closes_late, clears_rest, counts_refused, all_loud, rows_so_far, rows_by_calls, talk_too_long, hears_nobody, breaks_down, wrong}
+use Rattle.promises.proofs.Wrong.{changed_after, changed, answers, reads, counting, last_rows, writes_twice, longer, pads_on, forgets_padding, falls_back, stays_at_zero, last_open, closes_late, counts_refused, all_loud, rows_so_far, rows_by_calls, talk_too_long, hears_nobody, breaks_down, wrong}
 use Rattle.promises.proofs.Demand3.{demand_3}
 use Rattle.promises.proofs.Shown.{opening_accepted, handed, run_is}
 
@@ -37,22 +37,17 @@ fails_at P f = fails (λ r. AtEach P (changed f r))
 
 -- 1. the row 4 .. 20 comes once more
 pub writes_twice_lem : InOrder 0 (rows_in (changed writes_twice run)) → ⊥
-unfolding changed changed_after writes_twice last_rows writes answers rows_in rows_at row_at flat fields_of
+unfolding changed changed_after writes_twice last_rows answers rows_in
 writes_twice_lem = fails (λ r. InOrder 0 (rows_in (changed writes_twice r))) (λ h. omega arith)
-
--- .. and both times of the row 4 .. 20 are 0
-pub whole_seconds_lem : InTime 0 (rows_in (changed whole_seconds run)) → ⊥
-unfolding changed changed_after whole_seconds in_seconds writes answers rows_in rows_at row_at flat fields_of
-whole_seconds_lem = fails (λ r. InTime 0 (rows_in (changed whole_seconds r))) (λ h. omega arith)
 
 -- 2. the flush's row ends at 44, and 40 samples were received
 pub pads_on_lem : AtEach Within (changed pads_on run) → ⊥
-unfolding changed changed_after pads_on longer writes answers sound_in rows_at row_at flat fields_of
+unfolding changed changed_after pads_on longer answers sound_in
 pads_on_lem = fails_at Within pads_on (λ h. omega arith)
 
 -- 3. after the first block it gives 8, and then comes the row that starts at 4
 pub forgets_padding_lem : AtEach NotBefore (changed forgets_padding run) → ⊥
-unfolding changed changed_after forgets_padding reads sound_in rows_at row_at flat fields_of
+unfolding changed changed_after forgets_padding reads sound_in
 forgets_padding_lem = fails_at NotBefore forgets_padding (λ h. omega arith)
 
 -- 4. the refused call sends 4 back to 0
@@ -75,14 +70,6 @@ pub closes_late_lem : AtEach (LatelyLoud settings) (changed closes_late run) →
 unfolding changed changed_after closes_late last_open reads louds_in one_loud
 closes_late_lem = fails_at (LatelyLoud settings) closes_late (λ h. true≢false (sym (h.1.1.1.1.1.1.0 refl)))
 
--- past the first row stand sevens, not zeros
-pub clears_rest_lem : AtEach Written (changed clears_rest run) → ⊥
-unfolding changed changed_after clears_rest answers rows_at row_at flat fields_of
-clears_rest_lem = fails_at Written clears_rest (λ h. sevens (ap (λ ns. get_or ns row_width 0) h.1.1.1.1.1.1.0.0) refl refl)
-  where
-    sevens : {n m : ℕ} → n ≡ m → n ≡ 0 → m ≡ 7 → ⊥
-    sevens e x y = omega arith
-
 -- the refused call judges no frame, ..
 pub counts_refused_lem : AtEach Counted (changed counts_refused run) → ⊥
 unfolding changed changed_after counts_refused counting answers
@@ -100,25 +87,25 @@ rows_so_far_lem = fails_at Counted rows_so_far (λ h. omega arith)
 
 -- .. the first flush writes no row, ..
 pub rows_by_calls_lem : AtEach Counted (changed rows_by_calls run) → ⊥
-unfolding changed changed_after rows_by_calls reads due_in
+unfolding changed changed_after rows_by_calls reads rows_in
 rows_by_calls_lem = fails_at Counted rows_by_calls (λ h. omega arith)
 
 -- .. and the first row has 16 samples, not 17
 pub talk_too_long_lem : AtEach Counted (changed talk_too_long run) → ⊥
-unfolding changed changed_after talk_too_long reads rows_in rows_at row_at flat fields_of due_in talk_of talk_in
+unfolding changed changed_after talk_too_long reads rows_in talk_of talk_in
 talk_too_long_lem = fails_at Counted talk_too_long (λ h. omega arith)
 
 -- the definition has a row
 pub hears_nobody_lem : AtEach Counted (changed hears_nobody run) → ⊥
-unfolding changed changed_after hears_nobody writes answers reads rows_at row_at flat fields_of
-hears_nobody_lem = fails_at Counted hears_nobody (λ h. absurd (none h.1.1.1.1.1.1.0.read))
+unfolding changed changed_after hears_nobody counting answers reads
+hears_nobody_lem = fails_at Counted hears_nobody (λ h. absurd (none h.1.1.1.1.1.1.0.written))
   where
     none : {r : Row} {rs : List Row} → [] ≡ r ∷ rs → ⊥
     none e = omega (arith, ap length e)
 
 -- the call after the first row answers 19
 pub breaks_down_lem : AtEach Never19 (changed breaks_down run) → ⊥
-unfolding changed changed_after breaks_down answers rows_in rows_at row_at flat fields_of
+unfolding changed changed_after breaks_down answers rows_in
 breaks_down_lem = fails_at Never19 breaks_down (λ h. h.1.1.1.1.1.1.1.0.0 refl)
 
 -- ---- so demand 3 is true of none of them
@@ -126,7 +113,7 @@ breaks_down_lem = fails_at Never19 breaks_down (λ h. h.1.1.1.1.1.1.1.0.0 refl)
 -- each fails by the sentence that it breaks
 pub none_promised : Every (λ f. Promised settings (changed f run) → ⊥) wrong
 none_promised =
-    (λ p. writes_twice_lem p.in_order, (λ p. whole_seconds_lem p.in_time, (λ p. pads_on_lem p.within, (λ p. forgets_padding_lem p.not_before, (λ p. falls_back_lem p.onward, (λ p. stays_at_zero_lem p.trails, (λ p. closes_late_lem p.lately_loud, (λ p. clears_rest_lem p.written, (λ p. counts_refused_lem p.counted, (λ p. all_loud_lem p.counted, (λ p. rows_so_far_lem p.counted, (λ p. rows_by_calls_lem p.counted, (λ p. talk_too_long_lem p.counted, (λ p. hears_nobody_lem p.counted, (λ p. breaks_down_lem p.never_19, tt)))))))))))))))
+    (λ p. writes_twice_lem p.in_order, (λ p. pads_on_lem p.within, (λ p. forgets_padding_lem p.not_before, (λ p. falls_back_lem p.onward, (λ p. stays_at_zero_lem p.trails, (λ p. closes_late_lem p.lately_loud, (λ p. counts_refused_lem p.counted, (λ p. all_loud_lem p.counted, (λ p. rows_so_far_lem p.counted, (λ p. rows_by_calls_lem p.counted, (λ p. talk_too_long_lem p.counted, (λ p. hears_nobody_lem p.counted, (λ p. breaks_down_lem p.never_19, tt)))))))))))))
 
 -- ---- sentence 5 is needed: of what stays at 0, in any run, sentences 3 and 4 are true
 module _ (P : List Seen → Seen → Type 0) (kept : (before : List Seen) (s : Seen) → Every (λ e. e.undecided ≡ 0) before → P before s) where
@@ -140,7 +127,7 @@ pub zero_not_before : (ss : List Seen) → AtEach NotBefore (changed stays_at_ze
 unfolding changed
 zero_not_before ss =
     at_zero NotBefore
-    (λ before s h. every_map (λ e. e.undecided ≡ 0) (λ e. Every (λ r. e.undecided ≤ r.start_sample) (rows_seen s)) (λ e z. every_all (λ r. e.undecided ≤ r.start_sample) (λ r. omega arith) (rows_seen s)) before h)
+    (λ before s h. every_map (λ e. e.undecided ≡ 0) (λ e. Every (λ r. e.undecided ≤ r.start_sample) s.rows) (λ e z. every_all (λ r. e.undecided ≤ r.start_sample) (λ r. omega arith) s.rows) before h)
     [] [] ss tt
 
 -- .. and 0 never goes back

@@ -1,22 +1,20 @@
 -- Demand 3: from an accepted opening, and from any accepted reset, every run of detect and flush keeps each of its sentences. Assumes nothing.
 use mathlib.Core.Path.{◌≡◌, refl, sym, ap, ◌∙◌, subst}
-use mathlib.Core.Logic.{inl, inr, ⊎_elim}
-use mathlib.Core.Bool.{Bool, true, false, not, ◌&&◌, ◌||◌, cond, true≢false}
+use mathlib.Core.Logic.{⊎_elim}
+use mathlib.Core.Bool.{Bool, true, false, not, true≢false}
 use mathlib.Core.List.{List, [], ◌∷◌, ◌++◌, map, reverse, reverse_aux, reverse_aux-eq}
-use Prim.Native.Nat.{ℕ, zero, suc, ◌+◌, ◌*◌, ◌^◌, ◌≤◌, ◌<◌}
+use Prim.Native.Nat.{ℕ, zero, suc, ◌+◌, ◌*◌, ◌≤◌, ◌<◌}
 use native.Mathlib.Nat.{suc-mul, mul-le-mul_right}
 use native.Mathlib.Omega.{arith}
-use borrow.Author.Tests.{leb-true, le-leb, lt-leb}
-use lib.Dec.{leb, eqb}
+use borrow.Author.Tests.{lt-leb}
 use lib.ListN.{length, take, get_or, length-append}
 use lib.Ieee.{Float}
 use Rattle.lists.specs.Every.{Every}
-use Rattle.lists.proofs.Every.{every_append, every_map, every_both}
-use Rattle.vad_config.specs.Settings.{frame_of, hop_of, warmup_of, padding_of, lengths_of}
+use Rattle.lists.proofs.Every.{every_map}
+use Rattle.vad_config.specs.Settings.{frame_of, padding_of, lengths_of}
 use Rattle.vad_config.specs.declared.VadConfig.{VadConfig}
 use Rattle.vad_config.specs.declared.Lengths.{Lengths}
-use Rattle.vad_config.proofs.Laws.{Accepted}
-use Rattle.vad_row.specs.Rows.{talk_of, InOrder, InTime}
+use Rattle.vad_row.specs.Rows.{talk_of, InOrder}
 use Rattle.vad_segments.specs.Setters.{fresh_track}
 use Rattle.vad_segments.specs.Judging.{count_of}
 use Rattle.vad_segments.specs.Positions.{undecided_of}
@@ -26,19 +24,17 @@ use Rattle.vad_segments.specs.declared.ActiveSegment.TheVariants.{Closed, Open}
 use Rattle.vad_segments.specs.declared.Track.{Track}
 use Rattle.vad_row.proofs.Laws.{talk_append, in_order_sooner, in_order_append, between_ends}
 use Rattle.vad_segments.proofs.Counts.{ActiveCounted, Recent}
-use Rattle.vad_segments.proofs.Times.{Stamped, in_time}
 use Rattle.vad_segments.proofs.Undecided.{undecided_trails}
 use Rattle.vad_state.specs.declared.VadDetector.{VadDetector}
 use Rattle.vad_call.specs.Calls.{refused_by, desk_after, joined_of, advanced_of}
 use Rattle.vad_detector.specs.Opening.{rules_of, fresh_of, open_of, Handed, restarted_of, reset_to, reset_of}
 use Rattle.vad_detector.specs.Readings.{undecided_in, open_start}
 use Rattle.vad_detector.specs.Run.{Call, Detect, Flush, Reset, next, play}
-use Rattle.vad_detector.proofs.Running.{Running, running_accepted}
+use Rattle.vad_detector.proofs.Running.{Running}
 use Rattle.vad_detector.proofs.Runs.{opened_is, open_running, detect_ends, flush_ends, reset_ends, reset_running, run_running}
-use Rattle.promises.specs.Log.{Turn, Look, Seen, rows_seen, answer_of, seen_of, log_of, run_of, state_after}
-use Rattle.promises.specs.Demand.{AtEachAfter, AtEach, sound_in, rows_in, due_in, louds_in, flushed_in, total_of, Within, NotBefore, Onward, warmed_up, Trails, one_loud, LatelyLoud, Written, Counted, Never19, Promised}
-use Rattle.promises.proofs.Turns.{Warmed, Moves, turn_moves}
-use Rattle.promises.proofs.Written.{turn_written, rows_counted, turn_read}
+use Rattle.promises.specs.Log.{Turn, Seen, answer_of, seen_of, log_of, seen_opened, run_of}
+use Rattle.promises.specs.Demand.{AtEachAfter, AtEach, sound_in, rows_in, louds_in, flushed_in, total_of, Within, NotBefore, Onward, warmed_up, Trails, one_loud, LatelyLoud, Counted, Never19, Promised}
+use Rattle.promises.proofs.Turns.{Moves, opened_moves, turn_moves}
 
 -- ---- flags, the latest first
 
@@ -70,43 +66,15 @@ unfolding open_start
 not_open Closed e = refl
 not_open (Open s) e = absurd (true≢false e)
 
--- ---- one call: what it does, and what it leaves in the lent slice
-record Turned (d e : VadDetector) (s : Seen) : Type 0 where
-  moves : Moves d e s
-  written : (before : List Seen) → Written before s
-  read : rows_seen s ≡ s.due
-  counted : s.counts.rows ≡ length s.due
-
-turned : (d : VadDetector) (k : Turn) → Running d → Turned d (answer_of d k).detector (seen_of d k)
-turned d k r = record { moves = turn_moves d k r; written = turn_written d k; read = turn_read d k; counted = rows_counted d k }
-
 -- ---- rows in order, the rows of each call after those before it
 log_order : (ks : List Turn) (d : VadDetector) → Running d → InOrder d.kept.desk.track.last_segment_end (rows_in (log_of d ks))
 unfolding log_of rows_in
 log_order [] d r = tt
-log_order (k ∷ ks) d r =
-    let m = turn_moves d k r in
-    rw (turn_read d k) (in_order_append _ _ (seen_of d k).due (rows_in (log_of (answer_of d k).detector ks)) m.in_order (log_order ks (answer_of d k).detector m.running))
-
--- each bears its times, and ends in the domain
-log_stamped : (c : VadConfig) (ks : List Turn) (d : VadDetector) → d.kept.rules.config ≡ c → Running d → Every (λ r. Stamped c r × (r.end_sample ≤ 2 ^ 40)) (rows_in (log_of d ks))
-unfolding log_of rows_in
-log_stamped c [] d e r = tt
-log_stamped c (k ∷ ks) d e r =
-    let m = turn_moves d k r in
-    let rows = (seen_of d k).due in
-    rw (turn_read d k)
-    (every_append _ rows (rows_in (log_of (answer_of d k).detector ks))
-    (every_both _ _ rows (subst (λ (x : VadConfig). Every (Stamped x) rows) e m.stamped) (every_map _ _ (λ x l. omega (arith, m.running.ordered.ended, m.running.received)) rows (between_ends _ rows _ m.in_order)))
-    (log_stamped c ks (answer_of d k).detector (ap (λ (x : Rules). x.config) m.rules ∙ e) m.running))
+log_order (k ∷ ks) d r = let m = turn_moves d k r in in_order_append _ _ (seen_of d k).rows (rows_in (log_of (answer_of d k).detector ks)) m.in_order (log_order ks (answer_of d k).detector m.running)
 
 run_order : (ks : List Turn) (d : VadDetector) → Running d → InOrder 0 (rows_in (run_of d ks))
-unfolding run_of
-run_order ks d r = in_order_sooner 0 d.kept.desk.track.last_segment_end (rows_in (run_of d ks)) (omega arith) (log_order (Look ∷ ks) d r)
-
-run_time : (c : VadConfig) (ks : List Turn) (d : VadDetector) → d.kept.rules.config ≡ c → Running d → InTime 0 (rows_in (run_of d ks))
-unfolding run_of
-run_time c ks d e r = in_time c (subst Accepted e (running_accepted d r)) 0 (rows_in (run_of d ks)) (run_order ks d r) (log_stamped c (Look ∷ ks) d e r)
+unfolding run_of rows_in
+run_order ks d r = in_order_sooner 0 d.kept.desk.track.last_segment_end (rows_in (run_of d ks)) (omega arith) (in_order_append _ _ (seen_opened d).rows (rows_in (log_of d ks)) (opened_moves d r).in_order (log_order ks d r))
 
 -- ---- a state, and what was seen before it: the latest first
 record Story (c : VadConfig) (before : List Seen) (d : VadDetector) : Type 0 where
@@ -115,85 +83,54 @@ record Story (c : VadConfig) (before : List Seen) (d : VadDetector) : Type 0 whe
   sound : sound_in before ≡ d.kept.stream.processed_samples
   given : Every (λ e. e.undecided ≤ undecided_in d) before
   unflushed : d.kept.desk.warming ≡ true → flushed_in before ≡ false
-  warmed : d.kept.desk.warming ≡ false → warmed_up c before ≡ true
   recent : Recent (louds_in before) d.kept.desk.track.active_segment
-  frames : total_of (λ e. e.counts.frames) before ≡ length (louds_in before)
-  loud : total_of (λ e. e.counts.loud) before ≡ count_of (louds_in before)
-  quiet : total_of (λ e. e.counts.quiet) before ≡ count_of (map not (louds_in before))
-  rows : d.kept.desk.track.rows_reported ≡ length (due_in before)
-  talk : d.kept.desk.track.talk_samples ≡ talk_of (due_in before)
+  frames : total_of (λ e. e.tally.frames) before ≡ length (louds_in before)
+  loud : total_of (λ e. e.tally.loud) before ≡ count_of (louds_in before)
+  quiet : total_of (λ e. e.tally.quiet) before ≡ count_of (map not (louds_in before))
+  rows : d.kept.desk.track.rows_reported ≡ length (rows_in before)
+  talk : d.kept.desk.track.talk_samples ≡ talk_of (rows_in before)
 
--- its lengths are those of the settings
-story_lengths : (c : VadConfig) (before : List Seen) (d : VadDetector) → Story c before d → d.kept.rules.lengths ≡ lengths_of c
-story_lengths c before d k = k.running.lengths ∙ ap lengths_of k.settings
-
--- while frames are held, they lie hop by hop from the stream's start, and are fewer than the warm-up's; so warm-up has not ended
-cold : (c : VadConfig) (before : List Seen) (d : VadDetector) → Story c before d → d.kept.desk.warming ≡ true → warmed_up c before ≡ false
-unfolding warmed_up lengths_of
-cold c before d k w =
-    let held = k.running.held w in
-    let hop = d.kept.rules.lengths.hop_length in
-    let most : suc d.kept.desk.held * hop ≤ d.kept.rules.lengths.warmup_frames * hop = mul-le-mul_right hop held.few in
-    let few = subst (λ (l : Lengths). sound_in before + l.hop_length < l.frame_length + l.warmup_frames * l.hop_length) (story_lengths c before d k)
-    (omega (arith, suc-mul d.kept.desk.held hop, held.start, k.sound, k.running.joined, k.running.short)) in
-    rw (k.unflushed w, lt-leb _ _ few)
-
--- warm-up that has ended has ended for good
-warmed_on : (c : VadConfig) (before : List Seen) (s : Seen) → warmed_up c before ≡ true → warmed_up c (s ∷ before) ≡ true
-unfolding warmed_up flushed_in sound_in
-warmed_on c before s h = go (flushed_in before) (s.flush && eqb s.number 0) (leb-true (frame_of c + warmup_of c * hop_of c) (sound_in before + hop_of c)) h
-  where
-    go : (f b : Bool) → (leb (frame_of c + warmup_of c * hop_of c) (sound_in before + hop_of c) ≡ true → frame_of c + warmup_of c * hop_of c ≤ sound_in before + hop_of c) → (f || leb (frame_of c + warmup_of c * hop_of c) (sound_in before + hop_of c)) ≡ true
-        → ((b || f) || leb (frame_of c + warmup_of c * hop_of c) (cond (eqb s.number 0) s.block 0 + sound_in before + hop_of c)) ≡ true
-    go f true g e = refl
-    go true false g e = refl
-    go false false g e = le-leb (frame_of c + warmup_of c * hop_of c) (cond (eqb s.number 0) s.block 0 + sound_in before + hop_of c) (omega (arith, g e))
-
-module _ (c : VadConfig) (before : List Seen) (d e : VadDetector) (s : Seen) (k : Story c before d) (u : Turned d e s) where
-  abbrev m : Moves d e s
-  m = u.moves
-
-  -- by a flush, or by the frames received
-  warmed_by : Warmed d e s → warmed_up c (s ∷ before) ≡ true
-  unfolding warmed_up flushed_in sound_in lengths_of
-  warmed_by w = elim w [
-    | inl was ↦ warmed_on c before s (k.warmed was)
-    | inr (inl flushed) ↦ rw flushed
-    | inr (inr enough) ↦
-        let reach = subst (λ (l : Lengths). l.frame_length + l.warmup_frames * l.hop_length ≤ e.kept.stream.processed_samples + l.hop_length) (story_lengths c before d k) enough in
-        rw (le-leb (frame_of c + warmup_of c * hop_of c) (cond (eqb s.number 0) s.block 0 + sound_in before + hop_of c) (omega (arith, m.sound, k.sound, reach))) (or_true (flushed_in (s ∷ before)))
-  ]
-    where
-      or_true : (b : Bool) → (b || true) ≡ true
-      or_true true = refl
-      or_true false = refl
-
+module _ (c : VadConfig) (before : List Seen) (d e : VadDetector) (s : Seen) (k : Story c before d) (m : Moves d e s) where
   -- a call goes on with it
   on : Story c (s ∷ before) e
-  unfolding sound_in louds_in flushed_in due_in total_of count_of
+  unfolding sound_in louds_in flushed_in rows_in total_of count_of
   on = record {
     running = m.running;
     settings = ap (λ (r : Rules). r.config) m.rules ∙ k.settings;
     sound = omega (arith, k.sound, m.sound);
     given = (omega (arith, m.shown.undecided), every_map _ _ (λ g l. omega (arith, m.onward)) before k.given);
     unflushed = λ w. let still = m.warming w in rw still.1 (k.unflushed still.0);
-    warmed = λ w. warmed_by (m.warmed w);
     recent = rw (sym (reverse_aux-eq s.louds (louds_in before))) (m.recent (louds_in before) k.recent);
     frames = omega (arith, k.frames, m.frames, added length (λ b. 1) refl (λ b bs. omega arith) s.louds (louds_in before));
     loud = omega (arith, k.loud, m.loud, added count_of (λ b. count_of (b ∷ [])) refl (λ b bs. omega arith) s.louds (louds_in before));
     quiet = omega (arith, k.quiet, m.quiet, added (λ bs. count_of (map not bs)) (λ b. count_of (not b ∷ [])) refl (λ b bs. omega arith) s.louds (louds_in before));
-    rows = omega (arith, k.rows, m.all_rows, length-append s.due (due_in before));
-    talk = omega (arith, k.talk, m.all_talk, talk_append s.due (due_in before));
+    rows = omega (arith, k.rows, m.all_rows, length-append s.rows (rows_in before));
+    talk = omega (arith, k.talk, m.all_talk, talk_append s.rows (rows_in before));
   }
 
+  -- its lengths are those of the settings
+  lengths_on : e.kept.rules.lengths ≡ lengths_of c
+  lengths_on = m.running.lengths ∙ ap lengths_of on.settings
+
   within : Within before s
-  within = rw u.read (every_map _ _ (λ r l. omega (arith, on.sound, m.running.ordered.ended)) s.due (between_ends _ s.due _ m.in_order))
+  within = every_map _ _ (λ r l. omega (arith, on.sound, m.running.ordered.ended)) s.rows (between_ends _ s.rows _ m.in_order)
 
   not_before : NotBefore before s
-  not_before = rw u.read (every_map _ _ (λ g l. every_map _ _ (λ r n. omega arith) s.due m.rows_from) before k.given)
+  not_before = every_map _ _ (λ g l. every_map _ _ (λ r n. omega arith) s.rows m.rows_from) before k.given
 
   onward : Onward before s
   onward = every_map _ _ (λ g l. omega (arith, m.onward, m.shown.undecided)) before k.given
+
+  -- while frames are held, they lie hop by hop from the stream's start, and are fewer than the warm-up's; so warm-up has not ended
+  warm : e.kept.desk.warming ≡ true → warmed_up c (s ∷ before) ≡ false
+  unfolding warmed_up lengths_of
+  warm w =
+      let held = m.running.held w in
+      let hop = e.kept.rules.lengths.hop_length in
+      let most : suc e.kept.desk.held * hop ≤ e.kept.rules.lengths.warmup_frames * hop = mul-le-mul_right hop held.few in
+      let few = subst (λ (l : Lengths). sound_in (s ∷ before) + l.hop_length < l.frame_length + l.warmup_frames * l.hop_length) lengths_on
+      (omega (arith, suc-mul e.kept.desk.held hop, held.start, on.sound, m.running.joined, m.running.short)) in
+      rw (on.unflushed w, lt-leb _ _ few)
 
   -- afterwards fewer samples than a frame are carried
   trails : Trails c before s
@@ -207,22 +144,22 @@ module _ (c : VadConfig) (before : List Seen) (d e : VadDetector) (s : Seen) (k 
       padding = e.kept.rules.lengths.padding_samples
 
       go : (b : Bool) → e.kept.desk.warming ≡ b → sound_in (s ∷ before) < s.undecided + (frame_of c + padding_of c)
-      go true w = absurd (true≢false (sym warmed ∙ cold c (s ∷ before) e on w))
+      go true w = absurd (true≢false (sym warmed ∙ warm w))
       go false off =
           let position : s.undecided ≡ undecided_of false padding e.kept.stream.carry_start t = m.shown.undecided ∙ ap (λ (b : Bool). undecided_of b padding e.kept.stream.carry_start t) off in
           let free = undecided_trails padding e.kept.stream.carry_start t e.kept.stream.carry_len e.kept.rules.lengths.frame_length (not_open t.active_segment (sym m.shown.segment ∙ none)) m.running.short in
-          subst (λ (l : Lengths). sound_in (s ∷ before) < s.undecided + (l.frame_length + l.padding_samples)) (story_lengths c (s ∷ before) e on) (omega (arith, on.sound, m.running.joined))
+          subst (λ (l : Lengths). sound_in (s ∷ before) < s.undecided + (l.frame_length + l.padding_samples)) lengths_on (omega (arith, on.sound, m.running.joined))
 
   lately_loud : LatelyLoud c before s
   lately_loud o = rw (sym on.settings) (lately e.kept.rules.config.hangover_frames (louds_in (s ∷ before)) e.kept.desk.track.active_segment m.running.counted on.recent (sym m.shown.segment ∙ o))
 
   counted : Counted before s
   counted = record {
-    read = u.read;
+    written = m.written;
     frames = m.frames;
     loud = m.loud;
     quiet = m.quiet;
-    rows = u.counted;
+    rows = m.rows;
     all_frames = on.frames;
     all_loud_lem = on.loud;
     all_quiet = on.quiet;
@@ -231,52 +168,44 @@ module _ (c : VadConfig) (before : List Seen) (d e : VadDetector) (s : Seen) (k 
   }
 
 -- ---- a run: what a state's story and its next call say holds at each call
-module _ (c : VadConfig) where
-  module _ (P : List Seen → Seen → Type 0) (say : (before : List Seen) (d e : VadDetector) (s : Seen) → Story c before d → Turned d e s → P before s) where
-    at_calls : (ks : List Turn) (before : List Seen) (d : VadDetector) → Story c before d → AtEachAfter before P (log_of d ks)
-    unfolding log_of
-    at_calls [] before d h = tt
-    at_calls (k ∷ ks) before d h =
-        let u = turned d k h.running in
-        let next = (answer_of d k).detector in
-        (say before d next (seen_of d k) h u, at_calls ks (seen_of d k ∷ before) next (on c before d next (seen_of d k) h u))
+module _ (c : VadConfig) (P : List Seen → Seen → Type 0) (say : (before : List Seen) (d e : VadDetector) (s : Seen) → Story c before d → Moves d e s → P before s) where
+  at_calls : (ks : List Turn) (before : List Seen) (d : VadDetector) → Story c before d → AtEachAfter before P (log_of d ks)
+  unfolding log_of
+  at_calls [] before d h = tt
+  at_calls (k ∷ ks) before d h =
+      let m = turn_moves d k h.running in
+      let next = (answer_of d k).detector in
+      (say before d next (seen_of d k) h m, at_calls ks (seen_of d k ∷ before) next (on c before d next (seen_of d k) h m))
 
-    at_each : (ks : List Turn) (d : VadDetector) → Story c [] d → AtEach P (run_of d ks)
-    unfolding run_of
-    at_each ks d h = at_calls (Look ∷ ks) [] d h
+  at_each : (ks : List Turn) (d : VadDetector) → Story c [] d → AtEach P (run_of d ks)
+  unfolding run_of
+  at_each ks d h =
+      let m = opened_moves d h.running in
+      (say [] d d (seen_opened d) h m, at_calls ks (seen_opened d ∷ []) d (on c [] d d (seen_opened d) h m))
 
-  promised : (d : VadDetector) (ks : List Turn) → Story c [] d → Promised c (run_of d ks)
-  promised d ks h = record {
-    in_order = run_order ks d h.running;
-    in_time = run_time c ks d h.settings h.running;
-    within = at_each Within (within c) ks d h;
-    not_before = at_each NotBefore (not_before c) ks d h;
-    onward = at_each Onward (onward c) ks d h;
-    trails = at_each (Trails c) (trails c) ks d h;
-    lately_loud = at_each (LatelyLoud c) (lately_loud c) ks d h;
-    written = at_each Written (λ before d e s k u. u.written before) ks d h;
-    counted = at_each Counted (counted c) ks d h;
-    never_19 = at_each Never19 (λ before d e s k u. (u.moves.never_19, u.moves.shown.readings)) ks d h;
-  }
-
-  -- the story goes on over any calls; what was seen is kept the latest first
-  story_after : (ks : List Turn) (before : List Seen) (d : VadDetector) → Story c before d → Story c (reverse_aux (log_of d ks) before) (state_after d ks)
-  unfolding log_of state_after
-  story_after [] before d h = h
-  story_after (k ∷ ks) before d h = story_after ks (seen_of d k ∷ before) (answer_of d k).detector (on c before d (answer_of d k).detector (seen_of d k) h (turned d k h.running))
+promised : (c : VadConfig) (d : VadDetector) (ks : List Turn) → Story c [] d → Promised c (run_of d ks)
+promised c d ks h = record {
+  in_order = run_order ks d h.running;
+  within = at_each c Within (within c) ks d h;
+  not_before = at_each c NotBefore (not_before c) ks d h;
+  onward = at_each c Onward (onward c) ks d h;
+  trails = at_each c (Trails c) (trails c) ks d h;
+  lately_loud = at_each c (LatelyLoud c) (lately_loud c) ks d h;
+  counted = at_each c Counted (counted c) ks d h;
+  never_19 = at_each c Never19 (λ before d e s k m. (m.never_19, m.shown.readings)) ks d h;
+}
 
 -- ---- a fresh state
 
 -- nothing was heard, and nothing seen
 fresh_story : (r : Rules) (window : List Float) (d : VadDetector) → d ≡ fresh_of r window → Running d → Story d.kept.rules.config [] d
-unfolding fresh_of fresh_track sound_in louds_in flushed_in due_in total_of count_of talk_of
+unfolding fresh_of fresh_track sound_in louds_in flushed_in rows_in total_of count_of talk_of
 fresh_story r window d e running = record {
   running = running;
   settings = refl;
   sound = rw e;
   given = tt;
   unflushed = λ w. refl;
-  warmed = λ w. absurd (true≢false (sym (ap (λ (x : VadDetector). x.kept.desk.warming) e) ∙ w));
   recent = rw e tt;
   frames = refl;
   loud = refl;
@@ -285,29 +214,13 @@ fresh_story r window d e running = record {
   talk = rw e;
 }
 
-opened_story : (c : VadConfig) (window : List Float) (rise : Float) → (open_of c window rise).refusal ≡ 0 → Handed c rise → Story c [] (open_of c window rise).detector
-unfolding fresh_of rules_of
-opened_story c window rise z f =
-    let d = (open_of c window rise).detector in
-    let e = opened_is c window rise z in
-    subst (λ (s : VadConfig). Story s [] d) (ap (λ (x : VadDetector). x.kept.rules.config) e) (fresh_story (rules_of c rise) window d e (open_running c window rise z f))
-
 -- every sentence of demand 3, of every run from an accepted opening, whatever its calls
 pub demand_3 : (c : VadConfig) (window : List Float) (rise : Float) (ks : List Turn) → (open_of c window rise).refusal ≡ 0 → Handed c rise → Promised c (run_of (open_of c window rise).detector ks)
-demand_3 c window rise ks z f = promised c (open_of c window rise).detector ks (opened_story c window rise z f)
-
-exactly : (c : VadConfig) (before : List Seen) (d : VadDetector) → Story c before d → warmed_up c before ≡ not d.kept.desk.warming
-exactly c before d k = go d.kept.desk.warming (cold c before d k) k.warmed
-  where
-    go : (w : Bool) → (w ≡ true → warmed_up c before ≡ false) → (w ≡ false → warmed_up c before ≡ true) → warmed_up c before ≡ not w
-    go true f g = f refl
-    go false f g = g refl
-
--- warm-up has ended, in the state after any calls, exactly when `warmed_up` says so of what was seen
-pub warmed_up_exactly : (c : VadConfig) (window : List Float) (rise : Float) (ks : List Turn) → (open_of c window rise).refusal ≡ 0 → Handed c rise
-    → let d = (open_of c window rise).detector in warmed_up c (reverse (run_of d ks)) ≡ not (state_after d ks).kept.desk.warming
-unfolding run_of state_after answer_of refused_by
-warmed_up_exactly c window rise ks z f = exactly c _ _ (story_after c (Look ∷ ks) [] _ (opened_story c window rise z f))
+unfolding fresh_of rules_of
+demand_3 c window rise ks z f =
+    let d = (open_of c window rise).detector in
+    let e = opened_is c window rise z in
+    subst (λ (s : VadConfig). Promised s (run_of d ks)) (ap (λ (x : VadDetector). x.kept.rules.config) e) (promised d.kept.rules.config d ks (fresh_story (rules_of c rise) window d e (open_running c window rise z f)))
 
 -- ---- after a reset
 

@@ -1,10 +1,8 @@
 pub mod Turns
 pub mod Demand3
 pub mod Written
-pub mod Door
 pub mod SmallTable
 pub mod Example
 pub mod Shown
-pub mod Warm
 pub mod Wrong
 pub mod Broken

@@ -2,8 +2,8 @@
 use mathlib.Core.Path.{◌≡◌, refl, ap, ◌∙◌}
 use mathlib.Core.Bool.{Bool, true, false, cond}
 use mathlib.Core.List.{List, [], ◌∷◌}
-use Prim.Native.Nat.{ℕ, ◌+◌, ◌*◌}
-use lib.Ieee.{Float, binary32, of_bits, of_int, fits, le, add, sub, mul, div, round, to_bits, is_nan}
+use Prim.Native.Nat.{ℕ, ◌+◌, ◌-◌, ◌*◌}
+use lib.Ieee.{binary32, of_bits, of_int, fits, le, add, sub, mul, div, round, to_bits, is_nan}
 use Rattle.float.specs.Fused.{fused_of}
 use Rattle.float.specs.Root.{root_of, twice_root}
 use Rattle.float.specs.Whole.{round_of, ceil_of}
@@ -17,7 +17,7 @@ use Rattle.vad_frames.specs.Emphasis.{coefficient_of, emphasized_of, emphasized,
 use Rattle.vad_frames.specs.Energy.{square_of, squares_from, mean_square_of, energy_of}
 use Rattle.vad_frames.specs.Grid.{taken, frames_from, frames_of, energies_of, consumed_of, framed_of}
 use Rattle.vad_segments.specs.Loudness.{ratio_of, required_of, loud_of, in_speech_of, weight_of, at_least, floor_of, seed_of}
-use Rattle.vad_row.specs.Rows.{fields_of, flat, room_of, reported, talk_of, talk_in}
+use Rattle.vad_row.specs.Rows.{room_of, reported, talk_of, talk_in}
 use Rattle.vad_segments.specs.Setters.{fresh_track, framed_to, booked_to}
 use Rattle.vad_segments.specs.Closing.{mean_energy_of, time_at, row_of, padded_start, padded_end, too_short, timed_of, finalized_of, booked_of, closed_by, closed_of}
 use Rattle.vad_segments.specs.Judging.{floored_to, active_to, begun_at, segment_for, extended_by, loud_added, paused_by, paused_of, floor_after, turned_of, judged_of, frame_at, frames_at, track_after, rows_of, louds_of, count_of, ended_of, call_rows, call_track}
@@ -29,20 +29,16 @@ use Rattle.vad_classify.specs.Classify.{classified_of}
 use Rattle.vad_state.specs.State.{window_of, carried_of, held_of, weights_in, same_lengths, settings_sound, carry_sound, track_sound, is_closed, held_sound, segment_sound, active_sound, sound_of}
 use Rattle.vad_state.specs.Arrays.{filled_of}
 use Rattle.vad_state.specs.declared.VadDetector.{VadDetector}
-use Rattle.vad_call.specs.Calls.{values_of, waiting_of, measured_from, measured_of, consumed_from, carry_after, stream_after, holding_with, holding_of, held_after, due_of, seeded_of, grid_start, frames_due, verdict_of, rows_due, desk_after, joined_of, advanced_of, tally_of, no_tally, refused_by, accepted_of, too_many, concluded_of, reported_in, ran_of, rows_of_call, written_of}
+use Rattle.vad_call.specs.Calls.{values_of, waiting_of, measured_from, measured_of, consumed_from, carry_after, stream_after, holding_with, holding_of, held_after, due_of, seeded_of, grid_start, frames_due, verdict_of, rows_due, desk_after, joined_of, advanced_of, tally_of, no_tally, refused_by, accepted_of, too_many, concluded_of, ran_of, rows_of_call}
 use Rattle.vad_detector.specs.Opening.{weights_fit, open_refusal, rules_of, fresh_of, open_of, Handed}
 use Rattle.vad_call.specs.Checks.{check_of}
-use Rattle.vad_detector.specs.Entries.{detect_of, detect_rows, flush_of, flush_rows}
-use Rattle.vad_detector.specs.Readings.{read_of, undecided_in, undecided_read, analyzed_read, rows_read, talk_read, floor_read, open_start, segment_read}
+use Rattle.vad_detector.specs.Entries.{detect_of, flush_of}
+use Rattle.vad_detector.specs.Readings.{read_of, undecided_in, undecided_read, rows_read, talk_read, open_start, segment_read}
 use Rattle.vad_runs.proofs.Detector.{state_with}
-use Rattle.promises.specs.Log.{Seen, Turn, Look, is_flush, block_of, lent_of, left_of, answer_of, louds_of_call, rows_of_turn, louds_of_turn, unless_refused, seen_of, log_of, run_of}
-use Rattle.promises.proofs.Example.{settings, window, rise, calls, run, shown}
+use Rattle.promises.specs.Log.{Seen, Turn, is_flush, block_of, answer_of, louds_of_call, unless_refused, seen_as, seen_of, log_of, seen_opened, run_of}
+use Rattle.promises.proofs.Example.{settings, window, rise, calls, run, floor_at, first, later, shown}
 
 -- ---- the states
-
--- the floor is 2^-10 after quiet, and 1/2 + 2^-11 after a loud frame
-abbrev pub floor_at : Bool → Float
-floor_at loud = of_bits binary32 (cond loud 0x3F00_2000 0x3A80_0000)
 
 -- nothing is carried or held between calls, since a block is a frame and the first flush ends the warm-up
 abbrev between : ℕ → ℕ → Bool → Track → VadDetector
@@ -78,22 +74,22 @@ opened = between 0 0 true (fresh_track (floor_at false))
 -- ---- call by call
 
 -- from a state on, some calls show this: each leads to a state n
-pub data Shows : VadDetector → List Turn → List Seen → Type 0 where
+data Shows : VadDetector → List Turn → List Seen → Type 0 where
   done : {d : VadDetector} → Shows d [] []
   call : {d : VadDetector} {k : Turn} {ks : List Turn} {s : Seen} {ss : List Seen} (n : VadDetector) → (answer_of d k).detector ≡ n → seen_of d k ≡ s → Shows n ks ss → Shows d (k ∷ ks) (s ∷ ss)
 
-pub log_of_lem : {d : VadDetector} {ks : List Turn} {ss : List Seen} → Shows d ks ss → log_of d ks ≡ ss
+log_of_lem : {d : VadDetector} {ks : List Turn} {ss : List Seen} → Shows d ks ss → log_of d ks ≡ ss
 unfolding log_of
 log_of_lem done = refl
 log_of_lem (call {ks = ks} n next saw rest) = λ i. saw i ∷ (ap (λ e. log_of e ks) next ∙ log_of_lem rest) i
 
--- the opening, a look at it, and each call; the fifth is refused and leaves the state as it was
-computed : (open_of settings window rise ≡ record { refusal = 0; detector = opened }) × Shows opened (Look ∷ calls) shown
-unfolding filled_of fresh_track fresh_of rules_of open_of open_refusal weights_fit weights_in all_within refusal_of first_of framing_refusals level_refusals limit_refusals lengths_of frame_of hop_of warmup_of padding_of frame_samples frame_length_of hop_length_of warmup_frames_of seconds_of padding_samples_of in_unit rate_in duration_in start_in round_of ceil_of of_bits of_int le add sub mul div round is_nan check_of clean_of leading_of detect_of ran_of concluded_of accepted_of joined_of desk_after advanced_of tally_of refused_by no_tally too_many room_of values_of waiting_of measured_from measured_of consumed_from carry_after stream_after holding_with holding_of held_after due_of seeded_of grid_start frames_due verdict_of rows_due holds_of emphasized emphasized_of coefficient_of last_of energies_of energy_of mean_square_of squares_from square_of frames_of frames_from taken framed_of consumed_of fused_of root_of twice_root floored_to seed_of frames_at call_rows call_track classified_of rows_of track_after louds_of count_of ended_of reported sound_of settings_sound same_lengths carry_sound track_sound held_sound active_sound is_closed in_domain window_of carried_of held_of received_in rows_of_call flush_of frame_at judged_of turned_of floor_after paused_of paused_by loud_added extended_by segment_for begun_at active_to closed_of closed_by booked_of finalized_of timed_of too_short padded_end padded_start talk_of talk_in row_of time_at mean_energy_of floor_of at_least weight_of in_speech_of loud_of required_of ratio_of score_of reaches largest time_of time_of_sample_of to_bits segment_read open_start segment_sound seen_of answer_of block_of is_flush lent_of left_of detect_rows flush_rows written_of reported_in flat fields_of rows_of_turn louds_of_turn louds_of_call unless_refused undecided_read analyzed_read rows_read talk_read floor_read read_of undecided_in undecided_of decided_to next_of
+-- the opening, and each call; the fifth is refused and leaves the state as it was
+computed : (open_of settings window rise ≡ record { refusal = 0; detector = opened }) × (seen_opened opened ≡ first) × Shows opened calls later
+unfolding filled_of fresh_track fresh_of rules_of open_of open_refusal weights_fit weights_in all_within refusal_of first_of framing_refusals level_refusals limit_refusals lengths_of frame_of hop_of warmup_of padding_of frame_samples frame_length_of hop_length_of warmup_frames_of seconds_of padding_samples_of in_unit rate_in duration_in start_in round_of ceil_of of_bits of_int le add sub mul div round is_nan check_of clean_of leading_of detect_of ran_of concluded_of accepted_of joined_of desk_after advanced_of tally_of refused_by no_tally too_many room_of values_of waiting_of measured_from measured_of consumed_from carry_after stream_after holding_with holding_of held_after due_of seeded_of grid_start frames_due verdict_of rows_due holds_of emphasized emphasized_of coefficient_of last_of energies_of energy_of mean_square_of squares_from square_of frames_of frames_from taken framed_of consumed_of fused_of root_of twice_root floored_to seed_of frames_at call_rows call_track classified_of rows_of track_after louds_of count_of ended_of reported sound_of settings_sound same_lengths carry_sound track_sound held_sound active_sound is_closed in_domain window_of carried_of held_of received_in rows_of_call flush_of frame_at judged_of turned_of floor_after paused_of paused_by loud_added extended_by segment_for begun_at active_to closed_of closed_by booked_of finalized_of timed_of too_short padded_end padded_start talk_of talk_in row_of time_at mean_energy_of floor_of at_least weight_of in_speech_of loud_of required_of ratio_of score_of reaches largest time_of time_of_sample_of to_bits segment_read open_start segment_sound seen_of seen_as seen_opened answer_of block_of is_flush louds_of_call unless_refused undecided_read rows_read talk_read read_of undecided_in undecided_of decided_to next_of
 computed = (
   refl,
-  call opened refl refl
-      (call (between 0 0 false (fresh_track (floor_at false))) refl refl
+  refl,
+  call (between 0 0 false (fresh_track (floor_at false))) refl refl
       (call (after 1 false 0 0 0 Closed) refl refl
       (call (after 2 true 0 0 0 (open_at 8 0)) refl refl
       (call (after 3 false 0 0 0 (open_at 8 1)) refl refl
@@ -101,7 +97,7 @@ computed = (
       (call (after 4 false 20 1 16 Closed) refl refl
       (call (after 5 true 20 1 16 (open_at 32 0)) refl refl
       (call (after 5 true 40 2 28 Closed) refl refl
-      done)))))))),
+      done))))))),
 )
 
 -- the run is one of those that demand 3 speaks of: its opening is accepted, ..
@@ -116,4 +112,4 @@ handed = record { floor_fits = tt; smoothing_fits = tt; rise_fits = tt }
 -- what our detector shows in it
 pub run_is : run ≡ shown
 unfolding run_of
-run_is = ap (λ o. run_of o.detector calls) computed.0 ∙ log_of_lem computed.1
+run_is = ap (λ o. run_of o.detector calls) computed.0 ∙ (λ i. computed.1 i ∷ log_of_lem computed.2 i)

@@ -1,12 +1,12 @@
 -- For each sentence of demand 3 a wrong detector that breaks it in the run of proofs/Example. Each shows what ours shows, but for one thing.
 use mathlib.Core.Bool.{Bool, false, ◌||◌, cond}
 use mathlib.Core.List.{List, [], ◌∷◌, ◌++◌, map}
-use Prim.Native.Nat.{ℕ, ◌+◌, ◌-◌, ◌/◌, min}
+use Prim.Native.Nat.{ℕ, ◌+◌, min}
 use lib.Dec.{eqb}
-use lib.ListN.{length, drop, replicate}
-use Rattle.vad_row.specs.Rows.{flat}
+use lib.ListN.{length}
 use Rattle.vad_row.specs.declared.Row.{Row}
-use Rattle.promises.specs.Log.{Counts, Seen, rows_seen}
+use Rattle.vad_call.specs.declared.Tally.{Tally}
+use Rattle.promises.specs.Log.{Seen}
 use Rattle.promises.specs.Demand.{sound_in, rows_in}
 use Rattle.promises.proofs.Example.{row_from}
 
@@ -20,15 +20,14 @@ unfoldable pub changed : (List Seen → Seen → Seen) → List Seen → List Se
 changed f run = changed_after [] f run
 
 -- all that a wrong detector may show otherwise
-abbrev pub showing : ℕ → List ℕ → Counts → ℕ → ℕ → ℕ → Bool → Seen → Seen
-showing number left counts undecided reported talk segment s =
+abbrev pub showing : ℕ → List Row → Tally → ℕ → ℕ → ℕ → Bool → Seen → Seen
+showing number rows tally undecided reported talk segment s =
     record {
       flush = s.flush;
       block = s.block;
       number = number;
-      lent = s.lent;
-      left = left;
-      counts = counts;
+      rows = rows;
+      tally = tally;
       undecided = undecided;
       reported = reported;
       talk = talk;
@@ -38,57 +37,34 @@ showing number left counts undecided reported talk segment s =
       due = s.due;
     }
 
--- another number, another slice, other counts
-unfoldable pub answers : ℕ → List ℕ → Counts → Seen → Seen
-answers number left counts s = showing number left counts s.undecided s.reported s.talk s.segment s
+-- another number, other rows, another tally
+unfoldable pub answers : ℕ → List Row → Tally → Seen → Seen
+answers number rows tally s = showing number rows tally s.undecided s.reported s.talk s.segment s
 
 -- another position, other totals, another segment
 unfoldable pub reads : ℕ → ℕ → ℕ → Bool → Seen → Seen
-reads undecided reported talk segment s = showing s.number s.left s.counts undecided reported talk segment s
+reads undecided reported talk segment s = showing s.number s.rows s.tally undecided reported talk segment s
 
 -- other counts
-unfoldable pub counting : ℕ → ℕ → ℕ → ℕ → Seen → Seen
-counting frames loud quiet rows s = answers s.number s.left (record { frames = frames; loud = loud; quiet = quiet; rows = rows }) s
-
--- other rows, written and counted as they should be
-unfoldable pub writes : List Row → Seen → Seen
-writes rows s =
-    answers s.number (flat rows ++ drop (length (flat rows)) s.lent)
-    (record { frames = s.counts.frames; loud = s.counts.loud; quiet = s.counts.quiet; rows = length rows })
-    s
+unfoldable pub counting : ℕ → ℕ → ℕ → ℕ → Tally → Tally
+counting frames loud quiet rows t = record { frames = frames; loud = loud; quiet = quiet; noise_floor = t.noise_floor; rows = rows }
 
 -- ---- the wrong detectors
 
 -- 1. it writes the rows of the call before once more
 unfoldable pub last_rows : List Seen → List Row
 last_rows [] = []
-last_rows (e ∷ before) = rows_seen e
+last_rows (e ∷ before) = e.rows
 
 unfoldable pub writes_twice : List Seen → Seen → Seen
-writes_twice before s = writes (last_rows before ++ rows_seen s) s
-
--- .. or it gives times in whole seconds, and both of a row's are 0
-unfoldable pub in_seconds : Row → Row
-in_seconds r =
-    record {
-      start_sample = r.start_sample;
-      end_sample = r.end_sample;
-      start_time = r.start_time / 1000000000;
-      end_time = r.end_time / 1000000000;
-      score_total = r.score_total;
-      loud_frames = r.loud_frames;
-      mean_energy = r.mean_energy;
-    }
-
-unfoldable pub whole_seconds : List Seen → Seen → Seen
-whole_seconds before s = writes (map in_seconds (rows_seen s)) s
+writes_twice before s = answers s.number (last_rows before ++ s.rows) s.tally s
 
 -- 2. its flush pads the end past the sound received; the padding of the run is 4 samples
 unfoldable pub longer : Row → Row
 longer r = row_from r.start_sample (r.end_sample + 4)
 
 unfoldable pub pads_on : List Seen → Seen → Seen
-pads_on before s = writes (cond s.flush (map longer (rows_seen s)) (rows_seen s)) s
+pads_on before s = answers s.number (cond s.flush (map longer s.rows) s.rows) s.tally s
 
 -- 3. its undecided position forgets the padding
 unfoldable pub forgets_padding : List Seen → Seen → Seen
@@ -110,23 +86,18 @@ last_open (e ∷ before) = e.segment
 unfoldable pub closes_late : List Seen → Seen → Seen
 closes_late before s = reads s.undecided s.reported s.talk (last_open before || s.segment) s
 
--- it writes zeros past its rows
-unfoldable pub clears_rest : List Seen → Seen → Seen
-clears_rest before s =
-    let rows = flat (rows_seen s) in
-    answers s.number (rows ++ replicate (length s.lent - length rows) 0) s.counts s
-
 -- counts made up: a refused call counts its frame too, ..
 unfoldable pub counts_refused : List Seen → Seen → Seen
-counts_refused before s = counting (cond (eqb s.number 0) s.counts.frames 1) s.counts.loud s.counts.quiet s.counts.rows s
+counts_refused before s =
+    answers s.number s.rows (counting (cond (eqb s.number 0) s.tally.frames 1) s.tally.loud s.tally.quiet s.tally.rows s.tally) s
 
 -- .. every frame is loud, ..
 unfoldable pub all_loud : List Seen → Seen → Seen
-all_loud before s = counting s.counts.frames s.counts.frames 0 s.counts.rows s
+all_loud before s = answers s.number s.rows (counting s.tally.frames s.tally.frames 0 s.tally.rows s.tally) s
 
 -- .. a call counts the rows so far, ..
 unfoldable pub rows_so_far : List Seen → Seen → Seen
-rows_so_far before s = counting s.counts.frames s.counts.loud s.counts.quiet s.reported s
+rows_so_far before s = answers s.number s.rows (counting s.tally.frames s.tally.loud s.tally.quiet s.reported s.tally) s
 
 -- .. there are as many rows as calls, ..
 unfoldable pub rows_by_calls : List Seen → Seen → Seen
@@ -138,23 +109,23 @@ talk_too_long before s = reads s.undecided s.reported (s.talk + length (rows_in 
 
 -- it never hears anyone: no row, no talk, no segment, and all that was received is decided
 unfoldable pub hears_nobody : List Seen → Seen → Seen
-hears_nobody before s = reads (sound_in (s ∷ before)) 0 0 false (writes [] s)
+hears_nobody before s =
+    reads (sound_in (s ∷ before)) 0 0 false
+    (answers s.number [] (counting s.tally.frames s.tally.loud s.tally.quiet 0 s.tally) s)
 
 -- it leaves a malformed state when it has written a row
 unfoldable pub breaks_down : List Seen → Seen → Seen
-breaks_down before s = answers (cond (eqb (length (rows_in before)) 0) s.number 19) s.left s.counts s
+breaks_down before s = answers (cond (eqb (length (rows_in before)) 0) s.number 19) s.rows s.tally s
 
 -- all of them
 abbrev pub wrong : List (List Seen → Seen → Seen)
 wrong =
     writes_twice
-    ∷ whole_seconds
     ∷ pads_on
     ∷ forgets_padding
     ∷ falls_back
     ∷ stays_at_zero
     ∷ closes_late
-    ∷ clears_rest
     ∷ counts_refused
     ∷ all_loud
     ∷ rows_so_far

@@ -1,12 +1,12 @@
 -- Demand 3, sentence by sentence, of what is seen of a run. Any detector's log can be held against it, with demand 2's frames and rows of the same calls beside it. That blocks are taken at all is demand 2's: a detector that refuses each one passes.
-use Rattle.std.specs.Prelude.{◌≡◌, Bool, true, false, not, ◌&&◌, ◌||◌, cond, List, [], ◌∷◌, ◌++◌, map, reverse, ℕ, suc, ◌+◌, ◌*◌, ◌≤◌, ◌<◌, leb, eqb, length, take, drop}
+use Rattle.std.specs.Prelude.{◌≡◌, Bool, true, false, not, ◌&&◌, ◌||◌, cond, List, [], ◌∷◌, ◌++◌, map, reverse, ℕ, suc, ◌+◌, ◌*◌, ◌≤◌, ◌<◌, leb, eqb, length, take}
 use Rattle.lists.specs.Every.{Every}
 use Rattle.vad_config.specs.Settings.{frame_of, hop_of, warmup_of, padding_of}
 use Rattle.vad_config.specs.declared.VadConfig.{VadConfig}
-use Rattle.vad_row.specs.Rows.{flat, talk_of, InOrder, InTime}
+use Rattle.vad_row.specs.Rows.{talk_of, InOrder}
 use Rattle.vad_row.specs.declared.Row.{Row}
 use Rattle.vad_segments.specs.Judging.{count_of}
-use Rattle.promises.specs.Log.{Seen, rows_seen}
+use Rattle.promises.specs.Log.{Seen}
 
 -- what holds of each call and of the calls before it, the latest of them first
 abbrev pub AtEachAfter : List Seen → (List Seen → Seen → Type 0) → List Seen → Type 0
@@ -23,15 +23,10 @@ unfoldable pub sound_in : List Seen → ℕ
 sound_in [] = 0
 sound_in (s ∷ ss) = cond (eqb s.number 0) s.block 0 + sound_in ss
 
--- all rows written, call by call
+-- all rows, call by call as listed: of a run in the order of time; of the calls before one, only their number and their lengths are asked
 unfoldable pub rows_in : List Seen → List Row
 rows_in [] = []
-rows_in (s ∷ ss) = rows_seen s ++ rows_in ss
-
--- all rows of the definition; of the calls before one, latest first, only their number and their talk are asked
-unfoldable pub due_in : List Seen → List Row
-due_in [] = []
-due_in (s ∷ ss) = s.due ++ due_in ss
+rows_in (s ∷ ss) = s.rows ++ rows_in ss
 
 -- all frames judged, of calls listed latest first, the latest frame first: loud or not
 unfoldable pub louds_in : List Seen → List Bool
@@ -45,20 +40,20 @@ flushed_in (s ∷ ss) = (s.flush && eqb s.number 0) || flushed_in ss
 
 -- what the calls answered, added up
 unfoldable pub total_of : (Seen → ℕ) → List Seen → ℕ
-total_of answered [] = 0
-total_of answered (s ∷ ss) = answered s + total_of answered ss
+total_of count [] = 0
+total_of count (s ∷ ss) = count s + total_of count ss
 
 -- ---- the sentences
 
--- 1. 'Rows come out in order and never overlap': `InOrder` of vad_row, of the rows of the whole run; and `InTime`, of the times that are read of them
+-- 1. 'Rows come out in order and never overlap': `InOrder` of vad_row, of the rows of the whole run
 
 -- 2. 'They lie within the sound received.' By 1 a row starts before it ends.
 abbrev pub Within : List Seen → Seen → Type 0
-Within before s = Every (λ r. r.end_sample ≤ sound_in (s ∷ before)) (rows_seen s)
+Within before s = Every (λ r. r.end_sample ≤ sound_in (s ∷ before)) s.rows
 
 -- 3. 'No row starts before an undecided position that was given earlier'
 abbrev pub NotBefore : List Seen → Seen → Type 0
-NotBefore before s = Every (λ e. Every (λ r. e.undecided ≤ r.start_sample) (rows_seen s)) before
+NotBefore before s = Every (λ e. Every (λ r. e.undecided ≤ r.start_sample) s.rows) before
 
 -- 4. 'The undecided position never goes back.'
 abbrev pub Onward : List Seen → Seen → Type 0
@@ -81,22 +76,18 @@ one_loud (b ∷ bs) = b || one_loud bs
 abbrev pub LatelyLoud : VadConfig → List Seen → Seen → Type 0
 LatelyLoud c before s = s.segment ≡ true → one_loud (take (suc c.hangover_frames) (louds_in (s ∷ before))) ≡ true
 
--- 'Rows fill the lent slice from its start .. and numbers past the rows written stay': nothing else is written, and nothing where the call is refused
-abbrev pub Written : List Seen → Seen → Type 0
-Written before s = (s.left ≡ flat s.due ++ drop (length (flat s.due)) s.lent) × (length s.left ≡ length s.lent)
-
--- 'each count that a call answers (frames, loud, quiet, rows, talk) equals the count over the definition's frames and rows of the whole run': those of the call, and all so far added up; and the rows that are read are the definition's
+-- 'each count that a call answers (frames, loud, quiet, rows, talk) equals the count over the definition's frames and rows of the whole run': those of the call, and all so far added up; and the rows written are the definition's
 pub record Counted (before : List Seen) (s : Seen) : Type 0 where
-  pub read : rows_seen s ≡ s.due
-  pub frames : s.counts.frames ≡ length s.louds
-  pub loud : s.counts.loud ≡ count_of s.louds
-  pub quiet : s.counts.quiet ≡ count_of (map not s.louds)
-  pub rows : s.counts.rows ≡ length s.due
-  pub all_frames : total_of (λ e. e.counts.frames) (s ∷ before) ≡ length (louds_in (s ∷ before))
-  pub all_loud_lem : total_of (λ e. e.counts.loud) (s ∷ before) ≡ count_of (louds_in (s ∷ before))
-  pub all_quiet : total_of (λ e. e.counts.quiet) (s ∷ before) ≡ count_of (map not (louds_in (s ∷ before)))
-  pub all_rows : s.reported ≡ length (due_in (s ∷ before))
-  pub all_talk : s.talk ≡ talk_of (due_in (s ∷ before))
+  pub written : s.rows ≡ s.due
+  pub frames : s.tally.frames ≡ length s.louds
+  pub loud : s.tally.loud ≡ count_of s.louds
+  pub quiet : s.tally.quiet ≡ count_of (map not s.louds)
+  pub rows : s.tally.rows ≡ length s.rows
+  pub all_frames : total_of (λ e. e.tally.frames) (s ∷ before) ≡ length (louds_in (s ∷ before))
+  pub all_loud_lem : total_of (λ e. e.tally.loud) (s ∷ before) ≡ count_of (louds_in (s ∷ before))
+  pub all_quiet : total_of (λ e. e.tally.quiet) (s ∷ before) ≡ count_of (map not (louds_in (s ∷ before)))
+  pub all_rows : s.reported ≡ length (rows_in (s ∷ before))
+  pub all_talk : s.talk ≡ talk_of (rows_in (s ∷ before))
 
 -- '19 never comes': no call is refused by it, and no reading is refused
 abbrev pub Never19 : List Seen → Seen → Type 0
@@ -105,12 +96,10 @@ Never19 before s = (s.number ≡ 19 → ⊥) × Every (λ n. n ≡ 0) s.readings
 -- ---- demand 3
 pub record Promised (c : VadConfig) (run : List Seen) : Type 0 where
   pub in_order : InOrder 0 (rows_in run)
-  pub in_time : InTime 0 (rows_in run)
   pub within : AtEach Within run
   pub not_before : AtEach NotBefore run
   pub onward : AtEach Onward run
   pub trails : AtEach (Trails c) run
   pub lately_loud : AtEach (LatelyLoud c) run
-  pub written : AtEach Written run
   pub counted : AtEach Counted run
   pub never_19 : AtEach Never19 run

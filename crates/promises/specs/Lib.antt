@@ -1,4 +1,3 @@
 pub mod Log
 pub mod Demand
-pub mod Door
 pub mod Table

@@ -1,15 +1,15 @@
 -- Document 01's 'Small table to prove', as one list.
-use Rattle.std.specs.Prelude.{◌≡◌, false, true, List, [], ◌∷◌, ◌++◌, map, ℕ, ◌+◌, negsuc, replicate, Float}
+use Rattle.std.specs.Prelude.{◌≡◌, false, true, List, [], ◌∷◌, ◌++◌, map, ℕ, negsuc, replicate, Float}
 use Rattle.std.specs.Float.{fin, binary32}
 use Rattle.std.specs.Float.Ieee.{of_bits}
-use Rattle.float.specs.Numbers.{one32, two32}
+use Rattle.float.specs.Numbers.{one32}
 use Rattle.float.specs.Fused.{fused_of}
 use Rattle.float.specs.Root.{root_of}
 use Rattle.float.specs.declared.Rounded.TheVariants.{Finite}
 use Rattle.score.specs.Score.{score_of}
 use Rattle.vad_config.specs.Lengths.{frame_length_of, hop_length_of, warmup_frames_of}
 use Rattle.vad_config.specs.declared.VadConfig.{VadConfig}
-use Rattle.vad_row.specs.Rows.{row_width}
+use Rattle.vad_row.specs.Rows.{row_width, flat}
 use Rattle.vad_state.specs.State.{half32}
 use Rattle.vad_detector.specs.Opening.{open_of}
 use Rattle.vad_runs.specs.Detector.{config_of, config, window, block_of, a, b, row_a, row_b}
@@ -30,18 +30,15 @@ pub data Case : Type 0 where
   -- six detects and a flush, with a release ratio: no row but at the flush
   Run : (release : ℕ) (row : List ℕ) → Case
 
--- 'Six detects of 80 equal samples: 1/64, 1/64, 1, 1, 1/64, 1/64; then flush'; nothing but the flush needs room, and it has two numbers more than a row
+-- 'Six detects of 80 equal samples: 1/64, 1/64, 1, 1, 1/64, 1/64; then flush'; nothing but the flush needs room
 abbrev pub calls : List Turn
-calls = map (λ k. Detect (block_of k) []) (0 ∷ 1 ∷ 2 ∷ 3 ∷ 4 ∷ 5 ∷ []) ++ (Flush (replicate (row_width + 2) 5) ∷ [])
+calls = map (λ k. Detect (block_of k) 0) (0 ∷ 1 ∷ 2 ∷ 3 ∷ 4 ∷ 5 ∷ []) ++ (Flush row_width ∷ [])
 
 abbrev pub Reports : ℕ → List ℕ → Type 0
 Reports release row =
     let opened = open_of (config release) window half32 in
     let log = log_of opened.detector calls in
-    (opened.refusal ≡ 0)
-    × (map (λ s. s.number) log ≡ replicate 7 0)
-    × (map (λ s. s.counts.rows) log ≡ replicate 6 0 ++ (1 ∷ []))
-    × (map (λ s. s.left) log ≡ replicate 6 [] ++ ((row ++ (5 ∷ 5 ∷ [])) ∷ []))
+    (opened.refusal ≡ 0) × (map (λ s. s.number) log ≡ replicate 7 0) × (map (λ s. flat s.rows) log ≡ replicate 6 [] ++ (row ∷ []))
 
 abbrev pub Holds : Case → Type 0
 Holds (Fused a b c r) = fused_of a b c ≡ Finite r
@@ -71,6 +68,9 @@ power60 = fin false 1 (negsuc 59)
 abbrev pub one_plus11_plus23 : Float
 one_plus11_plus23 = fin false 8392705 (negsuc 22)
 
+abbrev pub two : Float
+two = of_bits binary32 0x4000_0000
+
 -- run A's settings but for the frame, 10 ms (80 samples), 1 ms (8) or 875 µs (7), and the two ratios, by their bits
 abbrev pub framed : ℕ → ℕ → ℕ → VadConfig
 framed frame activation release = config_of 0 frame 5000000 activation release
@@ -81,7 +81,7 @@ small_table =
     Fused one_plus12 one_plus12 neg_one_plus11 power24
     ∷ Fused one_plus12 one_plus12 power60 one_plus11_plus23
     ∷ Root (of_bits binary32 0) (of_bits binary32 0)
-    ∷ Root two32 (of_bits binary32 0x3FB5_04F3)
+    ∷ Root two (of_bits binary32 0x3FB5_04F3)
     ∷ Frame 20000000 16000 320
     ∷ Hop 320 half32 160
     ∷ WarmUp 160 16000 30

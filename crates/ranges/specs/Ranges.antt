@@ -3,18 +3,18 @@ use Rattle.std.specs.Prelude.{Bool, true, ◌&&◌, cond, List, [], ◌∷◌, �
 use Rattle.std.specs.Float.{binary32}
 use Rattle.std.specs.Float.Ieee.{of_bits, le, neg}
 
--- x in [least, most]
+-- x in [low, high]
 abbrev pub within : Float → Float → Float → Bool
-within least x most = le least x && le x most
+within low x high = le low x && le x high
 
 -- how many stand before the first outside: all, where none is
 unfoldable pub leading_of : Float → List Float → Float → ℕ
-leading_of least [] most = 0
-leading_of least (x ∷ xs) most = cond (within least x most) (suc (leading_of least xs most)) 0
+leading_of low [] high = 0
+leading_of low (x ∷ xs) high = cond (within low x high) (suc (leading_of low xs high)) 0
 
 unfoldable pub all_within : Float → List Float → Float → Bool
-all_within least [] most = true
-all_within least (x ∷ xs) most = within least x most && all_within least xs most
+all_within low [] high = true
+all_within low (x ∷ xs) high = within low x high && all_within low xs high
 
 -- ---- the domain of a sample
 

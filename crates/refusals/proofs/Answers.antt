@@ -1,6 +1,6 @@
 -- An answer taken apart, as a caller takes it, and that two answers meeting the contract are equal. Assumes nothing.
 use mathlib.Core.Path.{◌≡◌, refl, sym, ◌∙◌}
-use Prim.Native.Nat.{ℕ, ◌/◌, ◌%◌, ◌^◌, ◌<◌}
+use Prim.Native.Nat.{ℕ, ◌/◌, ◌%◌, ◌<◌}
 use native.Mathlib.Omega.{arith}
 use Rattle.refusals.specs.Answers.{packed}
 
@@ -12,11 +12,7 @@ module _ (number carried : ℕ) where
   pub carried_back : number < 256 → packed number carried / 256 ≡ carried
   carried_back h = omega arith
 
-  -- where what is carried fits, nothing of it is lost
-  pub answer_whole : (r : ℕ) → r ≡ packed number (carried % 2 ^ 55) → carried < 2 ^ 55 → r ≡ packed number carried
-  answer_whole r e h = omega arith
-
-  pub answer_unique : (r q : ℕ) → r ≡ packed number (carried % 2 ^ 55) → q ≡ packed number (carried % 2 ^ 55) → r ≡ q
+  pub answer_unique : (r q : ℕ) → r ≡ packed number carried → q ≡ packed number carried → r ≡ q
   answer_unique r q h k = h ∙ sym k
 
 -- ---- computed: a block's third sample refused, and a position of 2^40 read

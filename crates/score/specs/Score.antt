@@ -14,7 +14,7 @@ reaches (fin false m e) k = leb (10 ^ k * down e ^ 1024) ((m * up e) ^ 1024)
 -- the largest of 0 .. n that passes the test, and 0 where none does
 unfoldable pub largest : (ℕ → Bool) → ℕ → ℕ
 largest p zero = zero
-largest p (suc n) = let smaller = largest p n in cond (p (suc n)) (suc n) smaller
+largest p (suc n) = let lower = largest p n in cond (p (suc n)) (suc n) lower
 
 -- 'The largest k in 0..1,024 with 10^k ≤ r^1024; 0 below 1 or for NaN; plus infinity scores 1,024.'
 unfoldable pub score_of : Float → ℕ

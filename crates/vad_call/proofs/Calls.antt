@@ -2,10 +2,10 @@
 use mathlib.Core.Path.{◌≡◌, refl, sym, ap, ◌∙◌}
 use mathlib.Core.Bool.{Bool, true, false, not, ◌&&◌, cond, true≢false}
 use mathlib.Core.List.{List, [], ◌∷◌, ◌++◌}
-use Prim.Native.Nat.{ℕ, ◌+◌, ◌-◌, ◌≤◌, ◌<◌}
+use Prim.Native.Nat.{ℕ, ◌+◌, ◌-◌, ◌^◌, ◌≤◌, ◌<◌}
 use native.Mathlib.Omega.{arith}
 use borrow.Author.Tests.{lt-ltb, le-ltb, ltb-true, eq-eqb, ne_eqb}
-use lib.Dec.{ltb, eqb, lit≤}
+use lib.Dec.{ltb, lit≤}
 use lib.ListN.{length, take, drop, length-append, length-take, length-drop}
 use lib.Seq.{sets, length-take-le}
 use lib.Ieee.{Float}
@@ -24,10 +24,11 @@ use Rattle.vad_row.proofs.Laws.{flat_length, room_enough}
 use Rattle.vad_segments.proofs.Ordered.{call_rows_counted}
 use Rattle.vad_classify.specs.Classify.{classified_of}
 use Rattle.vad_classify.specs.declared.Classified.{Classified}
+use Rattle.vad_state.specs.Arrays.{filled_of}
 use Rattle.ranges.specs.Sizes.{frame_most, warmup_most, block_most}
 use Rattle.vad_state.specs.State.{window_of, carried_of, held_of}
-use Rattle.vad_call.specs.Calls.{values_most, energies_most, values_of, waiting_of, measured_from, measured_of, consumed_from, carry_after, stream_after, holding_with, holding_of, held_after, due_of, seeded_of, grid_start, frames_due, verdict_of, rows_due, refused_by, accepted_of, too_many, concluded_of, reported_in, ran_of, rows_of_call, written_of, desk_after, advanced_of, joined_of, hearing_of}
-use Rattle.vad_call.specs.Inside.{refused_hearing, accepted_hearing, hearing_from, settled_of}
+use Rattle.vad_call.specs.Calls.{values_most, energies_most, values_of, waiting_of, measured_from, measured_of, consumed_from, carry_after, stream_after, holding_with, holding_of, held_after, due_of, seeded_of, grid_start, frames_due, verdict_of, rows_due, refused_by, accepted_of, too_many, concluded_of, reported_in, ran_of, rows_of_call, written_of, tally_of, desk_after, advanced_of, joined_of, settled_of}
+use Rattle.vad_call.specs.Inside.{refused_hearing, accepted_hearing, hearing_of}
 use Rattle.vad_state.specs.declared.Stream.{Stream}
 use Rattle.vad_state.specs.declared.Kept.{Kept}
 use Rattle.vad_state.specs.declared.VadDetector.{VadDetector}
@@ -35,7 +36,6 @@ use Rattle.vad_call.specs.declared.Detected.{Detected}
 use Rattle.vad_call.specs.declared.Heard.{Heard}
 use Rattle.vad_call.specs.declared.Outcome.{Outcome}
 use Rattle.lists.proofs.Stores.{from_start}
-use Rattle.lists.proofs.Tests.{either}
 use Rattle.vad_state.proofs.Fills.{take_again, put_back, put_rest, put_on}
 use Rattle.vad_state.proofs.Parts.{Sound, frame_high, hop_low, hop_high, warmup_high}
 
@@ -292,23 +292,108 @@ held_few finish d es holds h s = go d.kept.desk.warming finish holds h
     go false f true t = absurd (true≢false t)
     go w f false t = omega arith
 
+-- what was judged, concluded
+module _ (finish : Bool) (d : VadDetector) (es : List Float) (p : Stream) (carry : List Float) (room : ℕ) (refused : Bool) (t : refused ≡ too_many (rows_due finish d.kept p.processed_samples (due_of finish d.kept es)) room)
+    (n : ℕ) (k : n ≡ length (rows_due finish d.kept p.processed_samples (due_of finish d.kept es))) where
+  pub refused_concluded : refused ≡ true → (r : Detected) → r ≡ refused_by 18 n d → r ≡ concluded_of finish d p carry es room
+  unfolding concluded_of
+  refused_concluded on r a = a ∙ rw (sym t ∙ on, k)
+
+  pub accepted_concluded : refused ≡ false → (holds : Bool) → holds ≡ holding_with finish d.kept (length es) → (held : List Float) → held ≡ cond holds es [] → (c : Classified)
+      → c ≡ verdict_of finish d.kept p.processed_samples (due_of finish d.kept es) → (r : Detected) → r ≡ accepted_of d p carry holds held c n → r ≡ concluded_of finish d p carry es room
+  unfolding concluded_of holding_of held_after
+  accepted_concluded off holds h held g c e r a = a ∙ rw (sym t ∙ off, k, e, g, h)
+
+-- ---- concluded
 -- the energies held, as many as are counted
 held_length : (holds : Bool) (frames : ℕ) (es : List Float) → frames ≡ length es → cond holds frames 0 ≡ length (cond holds es [])
 held_length true frames es e = e
 held_length false frames es e = refl
 
--- ---- the two ends of a call
-module _ (finish : Bool) (d : VadDetector) (xs : List Float) where
-  -- what a call answers that 18 does not refuse
-  abbrev pub done_of : Detected
-  done_of =
-      let k = d.kept in
-      let es = measured_of finish d xs in
-      accepted_of d (stream_after finish d xs) (carry_after finish d xs) (holding_of finish k es) (held_after finish k es) (verdict_of finish k (k.stream.processed_samples + length xs) (due_of finish k es)) (length (rows_of_call finish d xs))
+held_part : (holds : Bool) (frames : ℕ) (energies : List Float) → take (cond holds frames 0) energies ≡ cond holds (take (frames - 0) energies) []
+held_part true frames energies = sym (from_start frames energies)
+held_part false frames energies = refl
 
-  pub ran_ways : (room : ℕ) (P : Detected → Type 0) → P (refused_by 18 (length (rows_of_call finish d xs)) d) → P done_of → P (ran_of finish d xs room)
-  unfolding ran_of concluded_of stream_after rows_of_call
-  ran_ways room P stuck done = either P (too_many (rows_of_call finish d xs) room) (refused_by 18 (length (rows_of_call finish d xs)) d) done_of stuck done
+module _ (d : VadDetector) (p : Stream) (frames : ℕ) (o : Outcome) (consumed : ℕ) (values energies : List Float) where
+  refused_settled : settled_of (refused_hearing d.kept o.needed) values energies d ≡ refused_by 18 o.needed d
+  unfolding settled_of refused_hearing refused_by
+  refused_settled = refl
+
+  accepted_settled : (held : List Float) → cond o.holds frames 0 ≡ length held → take (cond o.holds frames 0) energies ≡ held
+      → settled_of (accepted_hearing d.kept p frames o consumed) values energies d ≡ accepted_of d p (take p.carry_len (drop consumed values)) o.holds held o.classified o.needed
+  unfolding settled_of accepted_hearing accepted_of advanced_of desk_after
+  accepted_settled held b c = ap (λ (xs : List Float). made (cond o.holds frames 0) xs) c ∙ ap (λ (n : ℕ). made n held) b
+    where
+      made : ℕ → List Float → Detected
+      made n xs =
+          record {
+            refusal = record { number = 0; carries = 0 };
+            detector = joined_of d (record { rules = d.kept.rules; stream = p; desk = record { warming = o.holds; held = n; track = o.classified.track } }) (take p.carry_len (drop consumed values)) xs;
+            tally = tally_of o.classified o.needed;
+          }
+
+-- what `concluded` answers, settled
+module _ (finish : Bool) (d : VadDetector) (p : Stream) (frames : ℕ) (consumed : ℕ) (values energies : List Float) (room : ℕ) (o : Outcome)
+    (t : o.refused ≡ too_many (rows_due finish d.kept p.processed_samples (due_of finish d.kept (take (frames - 0) energies))) room)
+    (n : o.needed ≡ length (rows_due finish d.kept p.processed_samples (due_of finish d.kept (take (frames - 0) energies))))
+    (h : o.holds ≡ holding_with finish d.kept (length (take (frames - 0) energies)))
+    (v : o.classified ≡ verdict_of finish d.kept p.processed_samples (due_of finish d.kept (take (frames - 0) energies)))
+    (many : frames ≡ length (take (frames - 0) energies)) where
+  heard_concluded : settled_of (hearing_of d.kept p frames o consumed) values energies d ≡ concluded_of finish d p (take p.carry_len (drop consumed values)) (take (frames - 0) energies) room
+  unfolding hearing_of
+  heard_concluded = go o.refused refl
+    where
+      es : List Float
+      es = take (frames - 0) energies
+
+      carry : List Float
+      carry = take p.carry_len (drop consumed values)
+
+      go : (b : Bool) → o.refused ≡ b → settled_of (cond b (refused_hearing d.kept o.needed) (accepted_hearing d.kept p frames o consumed)) values energies d ≡ concluded_of finish d p carry es room
+      go true on = refused_concluded finish d es p carry room o.refused t o.needed n on (settled_of (refused_hearing d.kept o.needed) values energies d) (refused_settled d p frames o consumed values energies)
+      go false off =
+          accepted_concluded finish d es p carry room o.refused t o.needed n off o.holds h (cond o.holds es []) refl o.classified v (settled_of (accepted_hearing d.kept p frames o consumed) values energies d)
+          (accepted_settled d p frames o consumed values energies (cond o.holds es []) (held_length o.holds frames es many) (held_part o.holds frames energies))
+
+  -- where the new carry and the energies held stand
+  heard_fits : Sound d → consumed + p.carry_len ≤ values_most → p.carry_len ≤ frame_most
+      → ((hearing_of d.kept p frames o consumed).refusal.number ≡ 0 → ((hearing_of d.kept p frames o consumed).consumed + (hearing_of d.kept p frames o consumed).kept.stream.carry_len ≤ values_most) × ((hearing_of d.kept p frames o consumed).kept.stream.carry_len ≤ frame_most) × ((hearing_of d.kept p frames o consumed).kept.desk.held ≤ warmup_most))
+  unfolding hearing_of refused_hearing accepted_hearing
+  heard_fits s most short = go o.refused
+    where
+      heard : Bool → Heard
+      heard b = cond b (refused_hearing d.kept o.needed) (accepted_hearing d.kept p frames o consumed)
+
+      go : (b : Bool) → (heard b).refusal.number ≡ 0 → ((heard b).consumed + (heard b).kept.stream.carry_len ≤ values_most) × ((heard b).kept.stream.carry_len ≤ frame_most) × ((heard b).kept.desk.held ≤ warmup_most)
+      go true z = absurd (omega arith)
+      go false z =
+          let few = held_few finish d (take (frames - 0) energies) o.holds h s in
+          let held = held_length o.holds frames (take (frames - 0) energies) many in
+          (most, short, omega arith)
+
+-- the numbers after the call
+module _ (d : VadDetector) (p : Stream) (frames : ℕ) (o : Outcome) (consumed : ℕ) (values energies : List Float) where
+  heard_kept : (hearing_of d.kept p frames o consumed).kept ≡ (settled_of (hearing_of d.kept p frames o consumed) values energies d).detector.kept
+  unfolding hearing_of refused_hearing accepted_hearing settled_of joined_of
+  heard_kept = go o.refused
+    where
+      heard : Bool → Heard
+      heard b = cond b (refused_hearing d.kept o.needed) (accepted_hearing d.kept p frames o consumed)
+
+      go : (b : Bool) → (heard b).kept ≡ (settled_of (heard b) values energies d).detector.kept
+      go true = refl
+      go false = refl
+
+  heard_start : p.carry_start ≡ d.kept.stream.carry_start + consumed → (hearing_of d.kept p frames o consumed).kept.stream.carry_start ≡ d.kept.stream.carry_start + (hearing_of d.kept p frames o consumed).consumed
+  unfolding hearing_of refused_hearing accepted_hearing
+  heard_start e = go o.refused
+    where
+      heard : Bool → Heard
+      heard b = cond b (refused_hearing d.kept o.needed) (accepted_hearing d.kept p frames o consumed)
+
+      go : (b : Bool) → (heard b).kept.stream.carry_start ≡ d.kept.stream.carry_start + (heard b).consumed
+      go true = omega arith
+      go false = e
 
 -- ---- run
 -- the carry and the block fit the array of values
@@ -348,6 +433,9 @@ module _ (finish : Bool) (d : VadDetector) (s : Sound d) (xs : List Float) (most
         let left = length-drop (consumed_from finish d (values_of d xs)) (values_of d xs) in
         omega (arith, consumed_is, values_many)
 
+    pub carry_fits : length (take (d.kept.stream.carry_len + length xs - consumed) (drop consumed values)) ≤ frame_most
+    carry_fits = rw carry_back (carry_few finish d s wide xs)
+
     module _ (to energies : List Float) (t : length to ≡ energies_most) (e : energies ≡ sets to 0 (measured_from finish d (take (d.kept.stream.carry_len + length xs - 0) values)))
         (frames : ℕ) (f : frames ≡ length (measured_from finish d (take (d.kept.stream.carry_len + length xs - 0) values))) where
       pub frames_fit : frames ≤ energies_most
@@ -370,49 +458,25 @@ module _ (finish : Bool) (d : VadDetector) (s : Sound d) (xs : List Float) (most
       unfolding measured_of
       frames_count = f ∙ ap (λ (ys : List Float). length (measured_from finish d ys)) values_back ∙ sym (ap length energies_back)
 
+      pub ran_is : (last : Float) → last ≡ last_of d.kept.stream.pre_emphasis_prev xs → (room : ℕ) (r : Detected) (p : Stream)
+          → r ≡ concluded_of finish d p (take (d.kept.stream.carry_len + length xs - consumed) (drop consumed values)) (take (frames - 0) energies) room
+          → p ≡ record {
+            carry_len = d.kept.stream.carry_len + length xs - consumed;
+            carry_start = d.kept.stream.carry_start + consumed;
+            processed_samples = d.kept.stream.processed_samples + length xs;
+            pre_emphasis_prev = last;
+          }
+          → r ≡ ran_of finish d xs room
+      unfolding ran_of stream_after
+      ran_is last l room r p h far =
+          let left : d.kept.stream.carry_len + length xs - consumed ≡ length (carry_after finish d xs) = carry_count ∙ ap length carry_back in
+          h ∙ rw (far, l, carry_back, left, energies_back, consumed_is)
+
       pub written_is : (out last : List ℕ) → last ≡ reported_in (rows_due finish d.kept (d.kept.stream.processed_samples + length xs) (due_of finish d.kept (take (frames - 0) energies))) out → last ≡ written_of finish d xs out
       unfolding written_of rows_of_call
       written_is out last h = h ∙ rw energies_back
 
 -- ---- hear
--- what `concluded` answers, in the words of the call
-module _ (finish : Bool) (d : VadDetector) (xs : List Float) (room : ℕ) where
-  abbrev judged : Outcome
-  judged =
-      let k = d.kept in
-      let es = measured_of finish d xs in
-      record {
-        refused = too_many (rows_of_call finish d xs) room;
-        holds = holding_of finish k es;
-        needed = length (rows_of_call finish d xs);
-        classified = verdict_of finish k (k.stream.processed_samples + length xs) (due_of finish k es);
-      }
-
-  heard_judged : hearing_from d.kept (stream_after finish d xs) (length (measured_of finish d xs)) judged (consumed_from finish d (values_of d xs)) ≡ hearing_of finish d xs room
-  unfolding hearing_from refused_hearing accepted_hearing hearing_of ran_of concluded_of refused_by accepted_of advanced_of joined_of desk_after held_after rows_of_call stream_after
-  heard_judged = go (too_many (rows_of_call finish d xs) room)
-    where
-      held : cond (holding_of finish d.kept (measured_of finish d xs)) (length (measured_of finish d xs)) 0 ≡ length (held_after finish d.kept (measured_of finish d xs))
-      held = held_length (holding_of finish d.kept (measured_of finish d xs)) (length (measured_of finish d xs)) (measured_of finish d xs) refl
-
-      read : Detected → Heard
-      read p = record { refusal = p.refusal; consumed = cond (eqb p.refusal.number 0) (consumed_from finish d (values_of d xs)) 0; kept = p.detector.kept; tally = p.tally }
-
-      go : (b : Bool) → cond b (refused_hearing d.kept (length (rows_of_call finish d xs))) (accepted_hearing d.kept (stream_after finish d xs) (length (measured_of finish d xs)) judged (consumed_from finish d (values_of d xs))) ≡ read (cond b (refused_by 18 (length (rows_of_call finish d xs)) d) (done_of finish d xs))
-      go true = refl
-      go false = rw held
-
-  module _ (es : List Float) (back : es ≡ measured_of finish d xs) (o : Outcome)
-      (t : o.refused ≡ too_many (rows_due finish d.kept (d.kept.stream.processed_samples + length xs) (due_of finish d.kept es)) room)
-      (n : o.needed ≡ length (rows_due finish d.kept (d.kept.stream.processed_samples + length xs) (due_of finish d.kept es)))
-      (h : o.holds ≡ holding_with finish d.kept (length es))
-      (v : o.classified ≡ verdict_of finish d.kept (d.kept.stream.processed_samples + length xs) (due_of finish d.kept es)) where
-    pub hearing_is : (p : Stream) → p ≡ stream_after finish d xs → (frames : ℕ) → frames ≡ length es → (consumed : ℕ) → consumed ≡ consumed_from finish d (values_of d xs)
-        → (r : Heard) → r ≡ hearing_from d.kept p frames o consumed → r ≡ hearing_of finish d xs room
-    unfolding hearing_from refused_hearing accepted_hearing rows_of_call holding_of
-    hearing_is p far frames f consumed c r is = is ∙ rw (far, f, c, t, n, h, v, back) heard_judged
-
--- all that the contract says
 module _ (finish : Bool) (d : VadDetector) (s : Sound d) (xs : List Float) (most : length xs ≤ block_most) (wide : length d.window ≡ frame_most) (long : length d.carry ≡ frame_most)
     (blank values : List Float) (b : length blank ≡ values_most) (v : values ≡ sets blank 0 (values_of d xs)) (f : Framed) (c : f.consumed ≡ consumed_from finish d (take (d.kept.stream.carry_len + length xs - 0) values))
     (to energies : List Float) (t : length to ≡ energies_most) (e : energies ≡ sets to 0 (measured_from finish d (take (d.kept.stream.carry_len + length xs - 0) values)))
@@ -420,112 +484,54 @@ module _ (finish : Bool) (d : VadDetector) (s : Sound d) (xs : List Float) (most
     (n : o.needed ≡ length (rows_due finish d.kept (d.kept.stream.processed_samples + length xs) (due_of finish d.kept (take (f.frames - 0) energies))))
     (h : o.holds ≡ holding_with finish d.kept (length (take (f.frames - 0) energies)))
     (k : o.classified ≡ verdict_of finish d.kept (d.kept.stream.processed_samples + length xs) (due_of finish d.kept (take (f.frames - 0) energies))) where
-  stream_is : record {
-    carry_len = d.kept.stream.carry_len + length xs - f.consumed;
-    carry_start = d.kept.stream.carry_start + f.consumed;
-    processed_samples = d.kept.stream.processed_samples + length xs;
-    pre_emphasis_prev = last;
-  } ≡ stream_after finish d xs
-  unfolding stream_after
-  stream_is =
-      let left : d.kept.stream.carry_len + length xs - f.consumed ≡ length (carry_after finish d xs) = carry_count finish d s xs most wide long blank values b v f.consumed c ∙ ap length (carry_back finish d s xs most wide long blank values b v f.consumed c) in
-      rw (left, l, consumed_is finish d s xs most wide long blank values b v f.consumed c)
-
-  pub heard_is : (out rows : List ℕ) → o.refused ≡ too_many (rows_due finish d.kept (d.kept.stream.processed_samples + length xs) (due_of finish d.kept (take (f.frames - 0) energies))) (length out)
-      → rows ≡ reported_in (rows_due finish d.kept (d.kept.stream.processed_samples + length xs) (due_of finish d.kept (take (f.frames - 0) energies))) out
-      → (r : Heard) (p : Stream) → r ≡ hearing_from d.kept p f.frames o f.consumed
-      → p ≡ record {
+  far : Stream
+  far =
+      record {
         carry_len = d.kept.stream.carry_len + length xs - f.consumed;
         carry_start = d.kept.stream.carry_start + f.consumed;
         processed_samples = d.kept.stream.processed_samples + length xs;
         pre_emphasis_prev = last;
       }
-      → (r ≡ hearing_of finish d xs (length out)) × ((values ≡ sets blank 0 (values_of d xs)) × ((energies ≡ sets to 0 (measured_of finish d xs)) × (rows ≡ written_of finish d xs out)))
-  unfolding measured_of
-  heard_is out rows refused written r p is at = (
-    hearing_is finish d xs (length out) (take (f.frames - 0) energies) (energies_back finish d s xs most wide long blank values b v f.consumed c to energies t e f.frames g) o refused n h k p (at ∙ stream_is) f.frames
-        (frames_count finish d s xs most wide long blank values b v f.consumed c to energies t e f.frames g) f.consumed (consumed_is finish d s xs most wide long blank values b v f.consumed c) r is,
-    (
-      v,
-      (
-        e ∙ ap (λ (ys : List Float). sets to 0 (measured_from finish d ys)) (values_back finish d s xs most wide long blank values b v),
-        written_is finish d s xs most wide long blank values b v f.consumed c to energies t e f.frames g out rows written,
-      ),
-    ),
-  )
 
--- ---- what is heard, and the by-value answer
-module _ (finish : Bool) (d : VadDetector) (xs : List Float) (room : ℕ) (r : Heard) (e : r ≡ hearing_of finish d xs room) where
-  pub hearing_refusal : r.refusal ≡ (ran_of finish d xs room).refusal
-  unfolding hearing_of
-  hearing_refusal = ap (λ (x : Heard). x.refusal) e
+  module _ (out rows : List ℕ) (refused : o.refused ≡ too_many (rows_due finish d.kept (d.kept.stream.processed_samples + length xs) (due_of finish d.kept (take (f.frames - 0) energies))) (length out))
+      (written : rows ≡ reported_in (rows_due finish d.kept (d.kept.stream.processed_samples + length xs) (due_of finish d.kept (take (f.frames - 0) energies))) out) where
+    ran_heard : settled_of (hearing_of d.kept far f.frames o f.consumed) values energies d ≡ ran_of finish d xs (length out)
+    unfolding far
+    ran_heard =
+        ran_is finish d s xs most wide long blank values b v f.consumed c to energies t e f.frames g last l (length out) (settled_of (hearing_of d.kept far f.frames o f.consumed) values energies d) far
+        (heard_concluded finish d far f.frames f.consumed values energies (length out) o refused n h k (frames_count finish d s xs most wide long blank values b v f.consumed c to energies t e f.frames g)) refl
 
-  pub hearing_kept : r.kept ≡ (ran_of finish d xs room).detector.kept
-  unfolding hearing_of
-  hearing_kept = ap (λ (x : Heard). x.kept) e
-
-  pub hearing_tally : r.tally ≡ (ran_of finish d xs room).tally
-  unfolding hearing_of
-  hearing_tally = ap (λ (x : Heard). x.tally) e
-
-module _ (finish : Bool) (d : VadDetector) (s : Sound d) (xs : List Float) (most : length xs ≤ block_most) (wide : length d.window ≡ frame_most) (long : length d.carry ≡ frame_most) (room : ℕ) (r : Heard) (e : r ≡ hearing_of finish d xs room) where
-  abbrev used : ℕ
-  used = consumed_from finish d (values_of d xs)
-
-  abbrev read : Detected → Heard
-  read p = record { refusal = p.refusal; consumed = cond (eqb p.refusal.number 0) used 0; kept = p.detector.kept; tally = p.tally }
-
-  many : length (values_of d xs) ≡ d.kept.stream.carry_len + length xs
-  many = let short = s.short in let high = frame_high d s in values_length d xs long (omega arith)
-
-  used_few : used ≤ length (values_of d xs)
-  unfolding consumed_from
-  used_few = consumed_le finish (window_of d) d.kept.rules.lengths.hop_length (values_of d xs)
-
-  held_short : length (held_after finish d.kept (measured_of finish d xs)) ≤ warmup_most
-  unfolding held_after holding_of
-  held_short = held_few finish d (measured_of finish d xs) (holding_with finish d.kept (length (measured_of finish d xs))) refl s
-
-  -- where the new carry and the energies held stand
-  pub hearing_fits : r.refusal.number ≡ 0 → (r.consumed + r.kept.stream.carry_len ≤ values_most) × (r.kept.stream.carry_len ≤ frame_most) × (r.kept.desk.held ≤ warmup_most)
-  unfolding hearing_of refused_by accepted_of advanced_of joined_of desk_after stream_after carry_after
-  hearing_fits =
-      let few = total_few d s (length xs) most in
-      let left = length-drop used (values_of d xs) in
-      let short = carry_few finish d s wide xs in
-      rw e
-      (ran_ways finish d xs room (λ p. let h = read p in h.refusal.number ≡ 0 → (h.consumed + h.kept.stream.carry_len ≤ values_most) × (h.kept.stream.carry_len ≤ frame_most) × (h.kept.desk.held ≤ warmup_most))
-      (λ z. absurd (omega arith)) (λ z. (omega (arith, used_few, many), short, held_short)))
-
-  -- and that they are those of the by-value answer
-  module _ (blank to : List Float) (b : length blank ≡ values_most) (t : length to ≡ energies_most) where
-    carry_put : take (length (carry_after finish d xs)) (drop used (sets blank 0 (values_of d xs))) ≡ carry_after finish d xs
-    unfolding carry_after
-    carry_put =
+    -- all that the contract says
+    pub heard_is : (r : Heard) (p : Stream) → r ≡ hearing_of d.kept p f.frames o f.consumed
+        → p ≡ record {
+          carry_len = d.kept.stream.carry_len + length xs - f.consumed;
+          carry_start = d.kept.stream.carry_start + f.consumed;
+          processed_samples = d.kept.stream.processed_samples + length xs;
+          pre_emphasis_prev = last;
+        }
+        → (ran_of finish d xs (length out) ≡ settled_of r values energies d)
+        × (((r.kept ≡ (ran_of finish d xs (length out)).detector.kept) × (r.kept.stream.carry_start ≡ d.kept.stream.carry_start + r.consumed))
+        × ((r.refusal.number ≡ 0 → (r.consumed + r.kept.stream.carry_len ≤ values_most) × (r.kept.stream.carry_len ≤ frame_most) × (r.kept.desk.held ≤ warmup_most))
+        × (rows ≡ written_of finish d xs out)))
+    unfolding far
+    heard_is r p is at =
         let few = total_few d s (length xs) most in
-        let left : length (carry_after finish d xs) ≡ length (values_of d xs) - used = length-drop used (values_of d xs) in
-        ap (λ (n : ℕ). take n (drop used (sets blank 0 (values_of d xs)))) left ∙ put_rest blank (values_of d xs) used (length (values_of d xs)) refl (omega (arith, many)) used_few
-
-    measured_most : length (measured_of finish d xs) ≤ energies_most
-    unfolding measured_of
-    measured_most = let few = total_few d s (length xs) most in measured_few finish d s (values_of d xs) (omega (arith, many))
-
-    held_put : take (length (held_after finish d.kept (measured_of finish d xs))) (sets to 0 (measured_of finish d xs)) ≡ held_after finish d.kept (measured_of finish d xs)
-    unfolding held_after
-    held_put = go (holding_of finish d.kept (measured_of finish d xs))
-      where
-        es : List Float
-        es = measured_of finish d xs
-
-        go : (h : Bool) → take (length (cond h es [])) (sets to 0 es) ≡ cond h es []
-        go true = put_back to es (length es) refl (omega (arith, measured_most))
-        go false = refl
-
-    pub hearing_settled : (values energies : List Float) → values ≡ sets blank 0 (values_of d xs) → energies ≡ sets to 0 (measured_of finish d xs) → settled_of r values energies d ≡ ran_of finish d xs room
-    unfolding hearing_of settled_of refused_by accepted_of advanced_of joined_of desk_after stream_after
-    hearing_settled values energies v u =
-        rw (e, v, u)
-        (ran_ways finish d xs room (λ p. settled_of (read p) (sets blank 0 (values_of d xs)) (sets to 0 (measured_of finish d xs)) d ≡ p) refl (rw (carry_put, held_put)))
+        let used = consumed_few finish d s xs most wide long blank values b v f.consumed c in
+        let count = carry_count finish d s xs most wide long blank values b v f.consumed c in
+        let short = carry_fits finish d s xs most wide long blank values b v f.consumed c in
+        rw (is, at) (
+          sym ran_heard,
+          (
+            (
+              heard_kept d far f.frames o f.consumed values energies ∙ ap (λ (x : Detected). x.detector.kept) ran_heard,
+              heard_start d far f.frames o f.consumed values energies refl,
+            ),
+            (
+              heard_fits finish d far f.frames f.consumed values energies (length out) o refused n h k (frames_count finish d s xs most wide long blank values b v f.consumed c to energies t e f.frames g) s (omega arith) (omega arith),
+              written_is finish d s xs most wide long blank values b v f.consumed c to energies t e f.frames g out rows written,
+            ),
+          ),
+        )
 
 -- ---- settled and run
 module _ (h : Heard) (values energies : List Float) (d : VadDetector) where

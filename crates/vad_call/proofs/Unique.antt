@@ -1,8 +1,9 @@
 -- Two answers that meet a public function's contract are equal, and so are two slices of rows: each contract is an equation.
-use mathlib.Core.Path.{◌≡◌, ap, ◌∙◌}
+use mathlib.Core.Path.{◌≡◌, sym, ap, ◌∙◌}
 use mathlib.Core.Bool.{Bool, cond}
 use mathlib.Core.List.{List, ◌++◌}
 use Prim.Native.Nat.{ℕ, ◌+◌}
+use native.Mathlib.Omega.{arith}
 use lib.ListN.{length, take}
 use lib.Seq.{sets}
 use lib.Ieee.{Float}
@@ -13,8 +14,10 @@ use Rattle.vad_frames.specs.declared.Framed.{Framed}
 use Rattle.vad_classify.specs.declared.Classified.{Classified}
 use Rattle.vad_state.specs.declared.Kept.{Kept}
 use Rattle.vad_state.specs.declared.VadDetector.{VadDetector}
-use Rattle.vad_call.specs.Calls.{holding_with, due_of, verdict_of, rows_due, refused_by, too_many, reported_in, ran_of, written_of, values_of, measured_of, hearing_of}
+use Rattle.vad_call.specs.Calls.{holding_with, due_of, verdict_of, rows_due, refused_by, too_many, reported_in, ran_of, written_of, settled_of}
 use Rattle.vad_call.specs.declared.Outcome.{Outcome}
+use Rattle.refusals.specs.declared.Refusal.{Refusal}
+use Rattle.vad_call.specs.declared.Tally.{Tally}
 use Rattle.vad_call.specs.declared.Detected.{Detected}
 use Rattle.vad_call.specs.declared.Heard.{Heard}
 
@@ -73,12 +76,30 @@ run_unique finish d xs room r q = only
 pub rows_unique : (finish : Bool) (d : VadDetector) (xs : List Float) (out r q : List ℕ) → r ≡ written_of finish d xs out → q ≡ written_of finish d xs out → r ≡ q
 rows_unique finish d xs out r q = only
 
--- `hear`'s contract, whose d is `state_of kept ..`; its rows are `run`'s
-pub hear_unique : (finish : Bool) (d : VadDetector) (xs : List Float) (room : ℕ) (r q : Heard) → r ≡ hearing_of finish d xs room → q ≡ hearing_of finish d xs room → r ≡ q
-hear_unique finish d xs room r q = only
+heard_same : (r q : Heard) → r.refusal ≡ q.refusal → r.consumed ≡ q.consumed → r.kept ≡ q.kept → r.tally ≡ q.tally → r ≡ q
+heard_same r q a b c e =
+    ap {B = Heard} (λ (x : Refusal). record { refusal = x; consumed = r.consumed; kept = r.kept; tally = r.tally }) a
+    ∙ ap {B = Heard} (λ (x : ℕ). record { refusal = q.refusal; consumed = x; kept = r.kept; tally = r.tally }) b
+    ∙ ap {B = Heard} (λ (x : Kept). record { refusal = q.refusal; consumed = q.consumed; kept = x; tally = r.tally }) c
+    ∙ ap {B = Heard} (λ (x : Tally). record { refusal = q.refusal; consumed = q.consumed; kept = q.kept; tally = x }) e
 
-pub values_unique : (d : VadDetector) (xs to r q : List Float) → r ≡ sets to 0 (values_of d xs) → q ≡ sets to 0 (values_of d xs) → r ≡ q
-values_unique d xs to r q = only
+module _ (finish : Bool) (d : VadDetector) (xs : List Float) (room : ℕ) where
+  -- `hear`'s contract, whose d is `state_of kept ..`, without its bounds; its rows are `run`'s
+  abbrev pub Hears : List Float → List Float → Heard → Type 0
+  Hears values energies r =
+      (ran_of finish d xs room ≡ settled_of r values energies d) × (r.kept ≡ (ran_of finish d xs room).detector.kept) × (r.kept.stream.carry_start ≡ d.kept.stream.carry_start + r.consumed)
 
-pub measured_unique : (finish : Bool) (d : VadDetector) (xs to r q : List Float) → r ≡ sets to 0 (measured_of finish d xs) → q ≡ sets to 0 (measured_of finish d xs) → r ≡ q
-measured_unique finish d xs to r q = only
+  -- whatever else the slices hold
+  pub hear_unique : (vs es : List Float) (r : Heard) (ws fs : List Float) (q : Heard) → Hears vs es r → Hears ws fs q → r ≡ q
+  unfolding settled_of
+  hear_unique vs es r ws fs q a b =
+      let both = sym a.0 ∙ b.0 in
+      let kept = only a.1 b.1 in
+      let start = ap (λ (k : Kept). k.stream.carry_start) kept in
+      let first = a.2 in
+      let second = b.2 in
+      heard_same r q (ap (λ (x : Detected). x.refusal) both) (omega arith) kept (ap (λ (x : Detected). x.tally) both)
+
+  -- the new carry and the energies held too
+  pub settled_unique : (vs es : List Float) (r : Heard) (ws fs : List Float) (q : Heard) → Hears vs es r → Hears ws fs q → settled_of r vs es d ≡ settled_of q ws fs d
+  settled_unique vs es r ws fs q a b = sym a.0 ∙ b.0

@@ -1,5 +1,5 @@
 -- One call, as detect and flush share it: what it measures, holds, judges and reports, and the state that it leaves.
-use Rattle.std.specs.Prelude.{Bool, ◌&&◌, cond, List, [], ◌++◌, ℕ, ◌+◌, ltb, eqb, length, drop, Float}
+use Rattle.std.specs.Prelude.{Bool, ◌&&◌, cond, List, [], ◌++◌, ℕ, ◌+◌, ltb, eqb, length, take, drop, Float}
 use Rattle.std.proofs.lemmas.List.Edits.{sets}
 use Rattle.float.specs.Numbers.{zero32}
 use Rattle.vad_frames.specs.Emphasis.{coefficient_of, emphasized, last_of}
@@ -159,13 +159,12 @@ written_of finish d xs out = reported_in (rows_of_call finish d xs) out
 
 -- ---- the same call by a state's numbers and its arrays as they are lent
 
--- 0 or 18, how many values are used up, and the state's numbers and the tally after the call
-unfoldable pub hearing_of : Bool → VadDetector → List Float → ℕ → Heard
-hearing_of finish d xs room =
-    let p = ran_of finish d xs room in
+-- the answer, from what was heard and the slices that it was heard in
+unfoldable pub settled_of : Heard → List Float → List Float → VadDetector → Detected
+settled_of h values energies d =
+    let k = h.kept in
     record {
-      refusal = p.refusal;
-      consumed = cond (eqb p.refusal.number 0) (consumed_from finish d (values_of d xs)) 0;
-      kept = p.detector.kept;
-      tally = p.tally;
+      refusal = h.refusal;
+      detector = cond (eqb h.refusal.number 0) (joined_of d k (take k.stream.carry_len (drop h.consumed values)) (take k.desk.held energies)) d;
+      tally = h.tally;
     }

@@ -1,12 +1,10 @@
 -- What a private function answers. Nothing here has to be believed: no public contract cites it.
-use Rattle.std.specs.Prelude.{cond, List, ℕ, eqb, take, drop, Float}
+use Rattle.std.specs.Prelude.{cond, ℕ}
 use Rattle.vad_state.specs.declared.Stream.{Stream}
 use Rattle.vad_state.specs.declared.Kept.{Kept}
-use Rattle.vad_state.specs.declared.VadDetector.{VadDetector}
-use Rattle.vad_call.specs.declared.Detected.{Detected}
 use Rattle.vad_call.specs.declared.Heard.{Heard}
 use Rattle.vad_call.specs.declared.Outcome.{Outcome}
-use Rattle.vad_call.specs.Calls.{joined_of, tally_of, no_tally}
+use Rattle.vad_call.specs.Calls.{tally_of, no_tally}
 
 -- refused, the numbers stay
 unfoldable pub refused_hearing : Kept → ℕ → Heard
@@ -22,15 +20,5 @@ accepted_hearing k s frames o consumed =
       tally = tally_of o.classified o.needed;
     }
 
-unfoldable pub hearing_from : Kept → Stream → ℕ → Outcome → ℕ → Heard
-hearing_from k s frames o consumed = cond o.refused (refused_hearing k o.needed) (accepted_hearing k s frames o consumed)
-
--- the answer by value, from what was heard and the slices that it was heard in
-unfoldable pub settled_of : Heard → List Float → List Float → VadDetector → Detected
-settled_of h values energies d =
-    let k = h.kept in
-    record {
-      refusal = h.refusal;
-      detector = cond (eqb h.refusal.number 0) (joined_of d k (take k.stream.carry_len (drop h.consumed values)) (take k.desk.held energies)) d;
-      tally = h.tally;
-    }
+unfoldable pub hearing_of : Kept → Stream → ℕ → Outcome → ℕ → Heard
+hearing_of k s frames o consumed = cond o.refused (refused_hearing k o.needed) (accepted_hearing k s frames o consumed)

@@ -1,7 +1,7 @@
 // What refuses a call before anything is heard.
-ghost use Rattle.std.specs.Prelude.{◌≡◌, length};
+ghost use Rattle.std.specs.Prelude.{◌≡◌, ◌≤◌, length};
 ghost use Rattle.refusals.specs.Refusals.{first_of};
-ghost use Rattle.ranges.specs.Sizes.{frame_most, warmup_most};
+ghost use Rattle.ranges.specs.Sizes.{frame_most, warmup_most, received_most};
 ghost use Rattle.vad_state.specs.State.{state_of};
 ghost use Rattle.vad_call.specs.Checks.{block_refusals, check_of};
 
@@ -29,8 +29,8 @@ pub fn check<'a>(
     block_refusal(kept.stream.processed_samples, samples)
 }
 
-// 15, 16 and 17, in this order; 17 by a difference, which is there however many samples were received.
 fn block_refusal(received: u64, samples: &[f32]) -> Refusal
+    requires { received ≤ received_most }
     ensures { result ≡ first_of (block_refusals received samples.now) }
 {
     if BLOCK_MOST < samples.len() {
@@ -46,7 +46,7 @@ fn block_refusal(received: u64, samples: &[f32]) -> Refusal
             carries: place,
         };
     }
-    if RECEIVED_MOST - (samples.len() as u64) < received {
+    if RECEIVED_MOST < received + samples.len() as u64 {
         return Refusal {
             number: 17,
             carries: 0,

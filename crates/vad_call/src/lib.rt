@@ -1,7 +1,7 @@
 // One call: the Rust's `run`, which detect and flush share.
 pub mod checks;
 
-ghost use Rattle.std.specs.Prelude.{◌≡◌, true, cond, ◌+◌, ◌≤◌, [], ◌++◌, length, take};
+ghost use Rattle.std.specs.Prelude.{◌≡◌, true, cond, ◌+◌, ◌≤◌, ◌^◌, [], ◌++◌, length, take};
 ghost use Rattle.std.proofs.lemmas.List.Edits.{sets};
 ghost use Rattle.vad_frames.specs.Emphasis.{emphasized, last_of};
 ghost use Rattle.vad_frames.specs.Grid.{frames_of, energies_of, framed_of};
@@ -9,8 +9,8 @@ ghost use Rattle.vad_row.specs.Rows.{room_of, flat};
 ghost use Rattle.vad_segments.specs.Rooms.{LengthsWithin, Within, positions_first, counts_first};
 ghost use Rattle.ranges.specs.Sizes.{frame_most, warmup_most, block_most, received_most};
 ghost use Rattle.vad_state.specs.State.{state_of, sound_of};
-ghost use Rattle.vad_call.specs.Calls.{values_most, energies_most, values_of, measured_of, holding_with, due_of, seeded_of, grid_start, verdict_of, rows_due, no_tally, refused_by, too_many, reported_in, ran_of, written_of, joined_of, hearing_of};
-ghost use Rattle.vad_call.specs.Inside.{hearing_from, settled_of};
+ghost use Rattle.vad_call.specs.Calls.{values_most, energies_most, holding_with, due_of, seeded_of, grid_start, verdict_of, rows_due, no_tally, refused_by, too_many, reported_in, ran_of, written_of, joined_of, settled_of};
+ghost use Rattle.vad_call.specs.Inside.{hearing_of};
 
 use refusals::Refusal;
 use vad_classify::Classified;
@@ -288,7 +288,7 @@ fn held_after(holds: bool, frames: usize) -> usize
 
 // What was heard, once the frames are judged.
 fn concluded(kept: Kept, stream: Stream, frames: usize, outcome: Outcome, consumed: usize) -> Heard
-    ensures { result ≡ hearing_from kept stream frames outcome consumed }
+    ensures { result ≡ hearing_of kept stream frames outcome consumed }
 {
     if outcome.refused {
         return Heard {
@@ -344,9 +344,9 @@ pub fn hear<'a>(
     requires warmup_value { sound_of (state_of kept window.now carry.now warmup.now) ≡ true }
     requires window_len { (length window.now ≡ frame_most) × (length carry.now ≡ frame_most) × (length warmup.now ≡ warmup_most) × (length values.old ≡ values_most) × (length energies.old ≡ energies_most) }
     requires samples_len_bound { (length samples.now ≤ block_most) × (kept.stream.processed_samples + length samples.now ≤ received_most) }
-    ensures value { result ≡ hearing_of finish (state_of kept window.now carry.now warmup.now) samples.now (length rows.old) }
-    ensures values_left { values.new ≡ sets values.old 0 (values_of (state_of kept window.now carry.now warmup.now) samples.now) }
-    ensures energies_left { energies.new ≡ sets energies.old 0 (measured_of finish (state_of kept window.now carry.now warmup.now) samples.now) }
+    ensures rows_value { ran_of finish (state_of kept window.now carry.now warmup.now) samples.now (length rows.old) ≡ settled_of result values.new energies.new (state_of kept window.now carry.now warmup.now) }
+    ensures kept_value { (result.kept ≡ (ran_of finish (state_of kept window.now carry.now warmup.now) samples.now (length rows.old)).detector.kept) × (result.kept.stream.carry_start ≡ kept.stream.carry_start + result.consumed) }
+    ensures carry_len_bound { result.refusal.number ≡ 0 → (result.consumed + result.kept.stream.carry_len ≤ values_most) × (result.kept.stream.carry_len ≤ frame_most) × (result.kept.desk.held ≤ warmup_most) }
     ensures rows_left { rows.new ≡ written_of finish (state_of kept window.now carry.now warmup.now) samples.now rows.old }
 {
     let coeff = vad_frames::coefficient(

@@ -17,7 +17,7 @@ frame_length_of rate ns = cond (rate_in rate && duration_in ns) (frame_samples r
 
 -- 'Hop = f32 product of length and (1 − overlap), rounded half away from zero, at least 1.'
 unfoldable pub hop_length_of : ℕ → Float → ℕ
-hop_length_of frame overlap = max 1 (round_of (mul binary32 (of_int binary32 (pos frame)) (sub binary32 one32 overlap)))
+hop_length_of length overlap = max 1 (round_of (mul binary32 (of_int binary32 (pos length)) (sub binary32 one32 overlap)))
 
 -- 0.3 of f64, which Rust's 300 ms in seconds are
 abbrev pub warmup_seconds : Float

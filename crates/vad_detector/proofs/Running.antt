@@ -6,7 +6,7 @@ use Prim.Native.Nat.{ℕ, suc, ◌+◌, ◌-◌, ◌*◌, ◌^◌, ◌≤◌, �
 use native.Mathlib.Nat.{le_refl, add-mul, suc-mul, mul-le-mul_left, mul-le-mul_right, zero-mul}
 use native.Mathlib.Decide.{dec_lt}
 use native.Mathlib.Omega.{arith}
-use borrow.Author.Tests.{ltb-true, ltb-false, leb-true}
+use borrow.Author.Tests.{ltb-true, leb-true}
 use lib.Dec.{T, lit≤, eqb, ltb, eqb→eq}
 use lib.IntN.{ℤ}
 use lib.ListN.{length, length-append, length-drop}
@@ -279,12 +279,6 @@ pub grid_carry : (d : VadDetector) → d.kept.desk.warming ≡ false → grid_st
 unfolding grid_start
 grid_carry d off = rw off
 
--- the frames that a detect has at hand while warming, those held and its own, lie hop by hop from the stream's start, and the last of them is whole
-pub measured_reach : (d : VadDetector) (xs : List Float) (r : Running d) → d.kept.desk.warming ≡ true → 1 ≤ length (measured_of false d xs)
-    → d.kept.rules.lengths.frame_length + length (measured_of false d xs) * d.kept.rules.lengths.hop_length ≤ d.kept.stream.processed_samples + length xs + d.kept.rules.lengths.hop_length
-measured_reach d xs r on some =
-    omega (arith, grid_zero d on, measured_grid false d xs r, consumed_whole false d xs r refl, consumed_most false d xs r, carry_left false d xs r, carry_reaches false d xs r (r.held on) on refl some, values_reach false d xs r)
-
 -- frames begin where the grid does, or later
 pub frames_from_lem : (d : VadDetector) (received : ℕ) (due : List Float) → Every (λ f. grid_start d.kept ≤ f.start_sample) (frames_due d.kept received due)
 unfolding frames_due
@@ -345,17 +339,6 @@ module _ (finish : Bool) (d : VadDetector) (es : List Float) where
       go true false false k e = absurd (true≢false (sym e))
       go true true l k e = absurd (true≢false (sym e))
       go false f l k e = absurd (true≢false (sym e))
-
-  -- a detect that holds no more has as many frames as the warm-up asks
-  pub holding_ends : holding_of finish d.kept es ≡ false → d.kept.desk.warming ≡ true → finish ≡ false → d.kept.rules.lengths.warmup_frames ≤ length es
-  unfolding holding_of holding_with holds_of
-  holding_ends = go d.kept.desk.warming finish (ltb (length es) d.kept.rules.lengths.warmup_frames) (ltb-false (length es) d.kept.rules.lengths.warmup_frames)
-    where
-      go : (w f l : Bool) → (l ≡ false → d.kept.rules.lengths.warmup_frames ≤ length es) → (w && (not f && l)) ≡ false → w ≡ true → f ≡ false → d.kept.rules.lengths.warmup_frames ≤ length es
-      go true false true k e on detects = absurd (true≢false e)
-      go true false false k e on detects = k refl
-      go true true l k e on detects = absurd (true≢false detects)
-      go false f l k e on detects = absurd (true≢false (sym on))
 
   pub held_all : holding_of finish d.kept es ≡ true → held_after finish d.kept es ≡ es
   unfolding held_after

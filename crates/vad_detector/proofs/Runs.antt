@@ -59,8 +59,8 @@ use Rattle.vad_detector.proofs.Running.{Holding, Running, handed_parts, ran_to, 
 ranged : (low x high : Float) → T (le low x) × T (le x high) → within low x high ≡ true
 ranged low x high h = is_true (le low x && le x high) (and_i (le low x) (le x high) h.0 h.1)
 
-carried_in_lem : (y : Float) → Mag y 131072 1 → within (neg loudest32) y loudest32 ≡ true
-carried_in_lem y h = ranged (neg loudest32) y loudest32 (le_of_mag y loudest32 131072 1 (lit< tt) (unfold of_bits in (refl, refl)) h)
+carried_in : (y : Float) → Mag y 131072 1 → within (neg loudest32) y loudest32 ≡ true
+carried_in y h = ranged (neg loudest32) y loudest32 (le_of_mag y loudest32 131072 1 (lit< tt) (unfold of_bits in (refl, refl)) h)
 
 last_in : (x : Float) → Mag x 65536 1 → in_domain x ≡ true
 unfolding in_domain
@@ -109,7 +109,7 @@ running_is_sound d r =
       handed = r.handed;
       short = r.short;
       joined = r.joined;
-      carried = within_all (neg loudest32) loudest32 (carried_of d) (every_map _ _ carried_in_lem (carried_of d) r.carried);
+      carried = within_all (neg loudest32) loudest32 (carried_of d) (every_map _ _ carried_in (carried_of d) r.carried);
       last = last_in d.kept.stream.pre_emphasis_prev r.last;
       floor_finite = is_true (finite t.noise_floor) found;
       floor = not_under least t.noise_floor r.floors.least.1 found r.floor.1;

@@ -1,13 +1,15 @@
--- What the door's answers carry is small, whatever the state: `answer` cuts off nothing of what is below 2^55. Assumes nothing.
-use mathlib.Core.Path.{◌≡◌, refl}
+-- What the door's answers carry is small, whatever the state: `answer` asks for less than 2^55. Assumes nothing.
+use mathlib.Core.Path.{◌≡◌, refl, sym, subst}
 use mathlib.Core.Bool.{Bool, true, false, not, cond}
 use mathlib.Core.List.{List, [], ◌∷◌}
 use Prim.Native.Nat.{ℕ, suc, ◌+◌, ◌^◌, ◌≤◌, ◌<◌}
 use native.Mathlib.Omega.{arith}
 use borrow.Author.Tests.{ltb-true, ltb-false}
+use lib.Dec.{ltb}
 use lib.ListN.{length, length-append, length-take}
 use lib.Ieee.{Float}
 use Rattle.ranges.specs.Ranges.{clean_of}
+use Rattle.vad_config.specs.Domain.{received_in}
 use Rattle.vad_frames.specs.Emphasis.{coefficient_of, emphasized}
 use Rattle.vad_frames.proofs.Laws.{emphasized_length}
 use Rattle.vad_row.specs.Rows.{reported}
@@ -24,8 +26,9 @@ use Rattle.vad_state.specs.State.{carried_of, sound_of}
 use Rattle.vad_state.specs.declared.Kept.{Kept}
 use Rattle.vad_state.specs.declared.VadDetector.{VadDetector}
 use Rattle.vad_state.proofs.Parts.{ActiveIn, Sound, parts, frame_high}
-use Rattle.vad_call.specs.Calls.{values_most, rows_of_call, values_of, measured_of, holding_of, due_of, seeded_of, grid_start, frames_due, rows_due, refused_by, accepted_of, ran_of, energies_most}
-use Rattle.vad_call.proofs.Calls.{measured_few, ran_ways}
+use Rattle.vad_call.specs.Calls.{values_most, rows_of_call, values_of, measured_of, stream_after, carry_after, holding_of, held_after, due_of, seeded_of, grid_start, frames_due, verdict_of, rows_due, too_many, refused_by, accepted_of, concluded_of, ran_of, energies_most}
+use Rattle.vad_call.specs.declared.Detected.{Detected}
+use Rattle.vad_call.proofs.Calls.{measured_few}
 use Rattle.vad_call.specs.Checks.{block_refusals, check_of}
 use Rattle.refusals.specs.Refusals.{bare}
 use Rattle.refusals.proofs.First.{decided}
@@ -40,15 +43,28 @@ use Rattle.vad_door.proofs.Carried.{ran_shaped}
 -- ---- a call that no check refused: 18 or 0
 
 module _ (finish : Bool) (d : VadDetector) (xs : List Float) (room : ℕ) where
+  abbrev accepted : Detected
+  accepted =
+      let es = measured_of finish d xs in
+      accepted_of d (stream_after finish d xs) (carry_after finish d xs) (holding_of finish d.kept es) (held_after finish d.kept es) (verdict_of finish d.kept (d.kept.stream.processed_samples + length xs) (due_of finish d.kept es)) (length (rows_of_call finish d xs))
+
+  ran_ways : (P : Detected → Type 0) → P (refused_by 18 (length (rows_of_call finish d xs)) d) → P accepted → P (ran_of finish d xs room)
+  unfolding ran_of concluded_of stream_after rows_of_call
+  ran_ways P stuck done = go (too_many (rows_of_call finish d xs) room)
+    where
+      go : (b : Bool) → P (cond b (refused_by 18 (length (rows_of_call finish d xs)) d) accepted)
+      go true = stuck
+      go false = done
+
   -- refused, it answers the state that it was given
   pub ran_given : ((ran_of finish d xs room).refusal.number ≡ 0 → ⊥) → (ran_of finish d xs room).detector ≡ d
   unfolding refused_by accepted_of
-  ran_given = ran_ways finish d xs room (λ p. (p.refusal.number ≡ 0 → ⊥) → p.detector ≡ d) (λ z. refl) (λ z. absurd (z refl))
+  ran_given = ran_ways (λ p. (p.refusal.number ≡ 0 → ⊥) → p.detector ≡ d) (λ z. refl) (λ z. absurd (z refl))
 
   -- and its arrays have their lengths in every case
   pub ran_arrays : Sound d → Shaped d → Shaped (ran_of finish d xs room).detector
   unfolding refused_by accepted_of
-  ran_arrays s h = ran_ways finish d xs room (λ p. Shaped p.detector) h (ran_shaped finish d xs s h)
+  ran_arrays s h = ran_ways (λ p. Shaped p.detector) h (ran_shaped finish d xs s h)
 
 -- ---- 18: a row a frame, and one where flush closes a segment
 
@@ -137,6 +153,7 @@ module _ (k : Kept) (fs : List Float) (h : sound_of (state_at k fs) ≡ true) wh
   told : Sound (state_at k fs)
   told = parts (state_at k fs) h
 
+  -- what `word_of` asks
   pub words_small : WordsSmall k
   unfolding state_at
   words_small =

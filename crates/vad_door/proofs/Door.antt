@@ -2,7 +2,7 @@
 use mathlib.Core.Path.{◌≡◌, refl, sym, ap, ◌∙◌}
 use mathlib.Core.Bool.{Bool, true, false, not, ◌&&◌, cond}
 use mathlib.Core.List.{List, [], ◌∷◌}
-use Prim.Native.Nat.{ℕ, ◌+◌, ◌%◌, ◌^◌, ◌≤◌, ◌<◌}
+use Prim.Native.Nat.{ℕ, ◌+◌, ◌^◌, ◌≤◌, ◌<◌}
 use native.Mathlib.Omega.{arith}
 use borrow.Author.Tests.{ne_eqb, le-leb}
 use lib.Dec.{eqb}
@@ -10,7 +10,6 @@ use lib.ListN.{length, take, drop}
 use lib.Seq.{sets}
 use lib.Ieee.{Float, binary32, is_nan, of_bits, to_bits}
 use Rattle.refusals.specs.Answers.{packed}
-use Rattle.refusals.proofs.Answers.{answer_whole}
 use Rattle.refusals.specs.Refusals.{refusal, accepted, bare, first_of}
 use Rattle.ranges.specs.Ranges.{leading_of, clean_of}
 use Rattle.float.specs.Numbers.{zero32}
@@ -24,13 +23,12 @@ use Rattle.vad_state.specs.State.{state_of, sound_of}
 use Rattle.vad_state.specs.declared.Kept.{Kept}
 use Rattle.vad_state.specs.declared.VadDetector.{VadDetector}
 use Rattle.vad_state.proofs.Parts.{parts}
-use Rattle.vad_call.specs.Calls.{no_tally, refused_by, ran_of, written_of, hearing_of}
-use Rattle.vad_call.proofs.Calls.{hearing_refusal, hearing_kept, hearing_tally}
+use Rattle.vad_call.specs.Calls.{no_tally, refused_by, ran_of, written_of}
 use Rattle.vad_call.specs.declared.Detected.{Detected}
 use Rattle.vad_call.specs.declared.Heard.{Heard}
 use Rattle.refusals.specs.declared.Refusal.{Refusal}
 use Rattle.vad_call.specs.declared.Tally.{Tally}
-use Rattle.vad_detector.specs.Opening.{open_of, Handed, reset_of}
+use Rattle.vad_detector.specs.Opening.{open_of, reset_of}
 use Rattle.vad_call.specs.Checks.{block_refusals, check_of}
 use Rattle.vad_detector.specs.Entries.{detect_of, detect_rows, flush_of, flush_rows}
 use Rattle.vad_detector.specs.Run.{Detect, Flush, Reset, answered}
@@ -40,17 +38,17 @@ use Rattle.vad_detector.specs.declared.Reading.{Reading}
 use Rattle.vad_detector.specs.declared.FloorReading.{FloorReading}
 use Rattle.vad_detector.specs.declared.SegmentReading.{SegmentReading}
 use Rattle.vad_detector.proofs.Answers.{checked}
-use Rattle.vad_lent.specs.Lent.{state_at, sound_at, check_at, arrays_in}
-use Rattle.vad_lent.proofs.Laws.{sound_long, check_long, arrays_back}
+use Rattle.vad_lent.specs.Lent.{state_at, arrays_in}
+use Rattle.vad_lent.proofs.Laws.{arrays_back}
 use Rattle.vad_memory.specs.DetectorState.{kept_at, detector_at, long_enough, readable, singles_of, numbers_written, floats_written}
 use Rattle.vad_memory.proofs.Parts as memory
 use Rattle.vad_memory.proofs.Put.{singles_put}
 use Rattle.vad_memory.proofs.RoundTrip.{read_shaped}
-use Rattle.vad_door.specs.DetectorDoor.{open_answer, open_numbers, open_floats, AcceptedOpening, call_answer, call_numbers, call_floats, detected_rows, flushed_rows, read_answer, floor_word, start_word, segment_word}
-use Rattle.vad_door.specs.Inside.{heard_of, heard_rows, rows_heard, word_of, WordsSmall, read_by}
+use Rattle.vad_door.specs.DetectorDoor.{open_answer, open_numbers, open_floats, call_answer, call_numbers, call_floats, detected_rows, flushed_rows, read_answer, floor_word, start_word, segment_word}
+use Rattle.vad_door.specs.Inside.{heard_of, heard_rows, rows_heard, word_of, read_by}
 use Rattle.vad_door.specs.declared.Asked.{Asked}
 use Rattle.vad_door.specs.declared.Asked.TheVariants.{UndecidedFrom, AnalyzedUntil, ActiveSegmentStart, RowsReported, TalkSamples, NoiseFloor}
-use Rattle.vad_door.proofs.Bounds.{ran_small, ran_given, ran_arrays, check_small, words_small}
+use Rattle.vad_door.proofs.Bounds.{ran_small, ran_given, ran_arrays, check_small}
 
 -- ---- opening
 
@@ -67,13 +65,6 @@ module _ (c : VadConfig) (window : List Float) (rise : Float) (ns : List ℕ) (f
       → (gs : List Float) → gs ≡ floats_written o.detector fs → OpenEnds a ms gs
   unfolding open_answer open_numbers open_floats
   open_put h o e a p ms m gs g = (p ∙ rw (h, e), (m ∙ rw (h, e), g ∙ rw (h, e)))
-
-  -- an answer of 0 is an accepted opening
-  abbrev pub Opens : ℕ → List ℕ → List Float → Type 0
-  Opens a ms gs = (a ≡ open_answer c window rise ns fs) × ((ms ≡ open_numbers c window rise ns fs) × ((gs ≡ open_floats c window rise ns fs) × (a ≡ 0 → AcceptedOpening c window rise ns fs)))
-
-  pub opens : {a : ℕ} {ms : List ℕ} {gs : List Float} → Handed c rise → OpenEnds a ms gs → Opens a ms gs
-  opens f e = (e.0, (e.1.0, (e.1.1, λ z. record { answered = sym e.0 ∙ z; handed = f })))
 
 -- a block without samples is refused by 19 alone
 by_end : (d : VadDetector) (P : Bool → Refusal → Type 0) → P true accepted → P false (refusal 19 0) → P (sound_of d) (check_of d [])
@@ -178,16 +169,16 @@ module _ (ns : List ℕ) (fs : List Float) where
       abbrev ran : VadDetector → Detected
       ran x = ran_of finish x xs room
 
-      module _ (h : Heard) (r : h ≡ hearing_of finish (state_at k fs) xs room) (gs : List Float) (g : gs ≡ arrays_in (ran (state_at k fs)).detector fs) where
+      module _ (h : Heard) (r : (h.refusal ≡ (ran (state_at k fs)).refusal) × (h.tally ≡ (ran (state_at k fs)).tally) × (h.kept ≡ (ran (state_at k fs)).detector.kept)) (gs : List Float) (g : gs ≡ arrays_in (ran (state_at k fs)).detector fs) where
         refusal_is : h.refusal ≡ (ran d).refusal
-        refusal_is = hearing_refusal finish (state_at k fs) xs room h r ∙ ap (λ (x : VadDetector). (ran x).refusal) state_lent
+        refusal_is = r.0 ∙ ap (λ (x : VadDetector). (ran x).refusal) state_lent
 
-        carries_small : length xs ≤ block_most → h.refusal.carries < 2 ^ 55
+        pub carries_small : length xs ≤ block_most → h.refusal.carries < 2 ^ 55
         carries_small short = let few = ran_small finish d (parts d sound) xs short room in let e = ap (λ (x : Refusal). x.carries) refusal_is in omega arith
 
-        module _ (short : length xs ≤ block_most) (a : ℕ) (w : a ≡ packed h.refusal.number (h.refusal.carries % 2 ^ 55)) where
+        module _ (a : ℕ) (w : a ≡ packed h.refusal.number h.refusal.carries) where
           word_is : a ≡ packed (ran d).refusal.number (ran d).refusal.carries
-          word_is = answer_whole h.refusal.number h.refusal.carries a w (carries_small short) ∙ ap (λ (x : Refusal). packed x.number x.carries) refusal_is
+          word_is = w ∙ ap (λ (x : Refusal). packed x.number x.carries) refusal_is
 
           pub heard_refused : (h.refusal.number ≡ 0 → ⊥) → CallEnds ran a ns gs
           heard_refused z =
@@ -201,8 +192,8 @@ module _ (ns : List ℕ) (fs : List Float) where
           heard_written z ms m hs s =
               let new = (ran d).detector in
               let none : (ran d).refusal.number ≡ 0 = sym (ap (λ (x : Refusal). x.number) refusal_is) ∙ z in
-              let kept : h.kept ≡ new.kept = hearing_kept finish (state_at k fs) xs room h r ∙ ap (λ (x : VadDetector). (ran x).detector.kept) state_lent in
-              let tally : h.tally ≡ (ran d).tally = hearing_tally finish (state_at k fs) xs room h r ∙ ap (λ (x : VadDetector). (ran x).tally) state_lent in
+              let kept : h.kept ≡ new.kept = r.2 ∙ ap (λ (x : VadDetector). (ran x).detector.kept) state_lent in
+              let tally : h.tally ≡ (ran d).tally = r.1 ∙ ap (λ (x : VadDetector). (ran x).tally) state_lent in
               let arrays : gs ≡ arrays_in new fs = g ∙ ap (λ (x : VadDetector). arrays_in (ran x).detector fs) state_lent in
               let shape = ran_arrays finish d xs room (parts d sound) (read_shaped ns fs good) in
               let long = (memory.parts ns fs good).long.floats in
@@ -233,11 +224,11 @@ module _ (ns : List ℕ) (fs : List Float) where
     unfolding rows_heard
     hear_unread h a e = let ends = call_unread (heard_of finish xs (length rows)) h a e in (ends.0, (ends.1.0, (ends.1.1, rw h)))
 
-    module _ (good : readable ns fs ≡ true) (k : Kept) (e : k ≡ kept_at ns fs) (r : Refusal) (c : r ≡ check_at k fs xs) where
+    module _ (good : readable ns fs ≡ true) (k : Kept) (e : k ≡ kept_at ns fs) (r : Refusal) (c : r ≡ check_of (state_at k fs) xs) where
       check_is : r ≡ check_of d xs
-      check_is = c ∙ check_long k fs xs (readable_room good) ∙ ap (λ (x : VadDetector). check_of x xs) (state_lent k e)
+      check_is = c ∙ ap (λ (x : VadDetector). check_of x xs) (state_lent k e)
 
-      check_carries : r.carries < 2 ^ 55
+      pub check_carries : r.carries < 2 ^ 55
       check_carries = let few = check_small d xs in let same = ap (λ (x : Refusal). x.carries) check_is in omega arith
 
       -- what `run` asks
@@ -249,14 +240,13 @@ module _ (ns : List ℕ) (fs : List Float) where
           let same = ap (λ (x : Kept). x.stream.processed_samples) e in
           ((e, ok.sound), (ok.short, omega arith))
 
-      pub hear_stopped : (r.number ≡ 0 → ⊥) → (a : ℕ) → a ≡ packed r.number (r.carries % 2 ^ 55) → HeardEnds a ns fs rows
+      pub hear_stopped : (r.number ≡ 0 → ⊥) → (a : ℕ) → a ≡ packed r.number r.carries → HeardEnds a ns fs rows
       unfolding heard_of rows_heard heard_rows refused_by
       hear_stopped z a w =
           let p = refused_by r.number r.carries d in
           let n = ne_eqb r.number 0 z in
-          let word = answer_whole r.number r.carries a w check_carries in
           let same : p ≡ heard_of finish xs (length rows) d = rw (← check_is, n) in
-          let ends = call_kept (heard_of finish xs (length rows)) (λ _. p) same a ns fs (call_refused (λ _. p) good a word z) in
+          let ends = call_kept (heard_of finish xs (length rows)) (λ _. p) same a ns fs (call_refused (λ _. p) good a w z) in
           (ends.0, (ends.1.0, (ends.1.1, rw (good, ← check_is, n))))
 
       pub hear_ran : r.number ≡ 0 → (a : ℕ) (ms : List ℕ) (gs : List Float) (new : List ℕ) → RanEnds finish xs rows a ms gs new → HeardEnds a ms gs new
@@ -358,27 +348,19 @@ module _ (ns : List ℕ) (fs : List Float) where
         go false b = refl
 
   -- `read` of memory that holds no sound state, and of one that does
-  module _ (good : readable ns fs ≡ true) (k : Kept) (t : Bool) (c : t ≡ sound_at k fs) where
-    lent_says : sound_of (state_at k fs) ≡ t
-    lent_says = sym (sound_long k fs (readable_room good)) ∙ sym c
-
-    -- what `word_of` asks
-    pub read_small : t ≡ true → WordsSmall k
-    read_small z = words_small k fs (lent_says ∙ z)
-
   module _ (what : Asked) (a : ℕ) where
     pub read_unread : readable ns fs ≡ false → a ≡ 19 → a ≡ read_by what ns fs
     unfolding read_by
     read_unread h e = e ∙ rw h
 
-    module _ (good : readable ns fs ≡ true) (k : Kept) (e : k ≡ kept_at ns fs) (t : Bool) (c : t ≡ sound_at k fs) where
+    module _ (good : readable ns fs ≡ true) (k : Kept) (e : k ≡ kept_at ns fs) (t : Bool) (c : t ≡ sound_of (state_at k fs)) where
       sound_says : sound_of d ≡ t
-      sound_says = ap sound_of (sym (state_lent k e)) ∙ lent_says good k t c
+      sound_says = ap sound_of (sym (state_lent k e)) ∙ sym c
 
       pub read_stopped : t ≡ false → a ≡ 19 → a ≡ read_by what ns fs
       unfolding read_by
       read_stopped z w = w ∙ rw (good, sound_says, z)
 
-      pub read_done : t ≡ true → (word : ℕ) → word ≡ word_of what k → word < 2 ^ 55 → a ≡ packed 0 (word % 2 ^ 55) → a ≡ read_by what ns fs
+      pub read_done : t ≡ true → (word : ℕ) → word ≡ word_of what k → a ≡ packed 0 word → a ≡ read_by what ns fs
       unfolding read_by
-      read_done z word w small h = answer_whole 0 word a h small ∙ ap (packed 0) (w ∙ ap (word_of what) e) ∙ rw (good, sound_says, z)
+      read_done z word w h = h ∙ ap (packed 0) (w ∙ ap (word_of what) e) ∙ rw (good, sound_says, z)

@@ -1,5 +1,5 @@
 -- What the detector's entry points answer through the door, and what they leave in the memory lent to them. Each is the core's answer on the state that the memory holds.
-use Rattle.std.specs.Prelude.{◌≡◌, ◌&&◌, cond, List, [], ◌∷◌, ℕ, suc, eqb, Float}
+use Rattle.std.specs.Prelude.{◌&&◌, cond, List, [], ◌∷◌, ℕ, suc, eqb, Float}
 use Rattle.std.specs.Float.{binary32}
 use Rattle.std.specs.Float.Ieee.{to_bits}
 use Rattle.refusals.specs.Answers.{packed}
@@ -7,7 +7,7 @@ use Rattle.vad_config.specs.declared.VadConfig.{VadConfig}
 use Rattle.vad_call.specs.Calls.{no_tally}
 use Rattle.vad_state.specs.declared.VadDetector.{VadDetector}
 use Rattle.vad_call.specs.declared.Detected.{Detected}
-use Rattle.vad_detector.specs.Opening.{open_of, Handed}
+use Rattle.vad_detector.specs.Opening.{open_of}
 use Rattle.vad_detector.specs.Entries.{detect_rows, flush_rows}
 use Rattle.vad_detector.specs.Run.{Call, answered}
 use Rattle.vad_detector.specs.Readings.{floor_read, segment_read}
@@ -28,11 +28,6 @@ module _ (c : VadConfig) (window : List Float) (rise : Float) (ns : List ℕ) (f
 
   unfoldable pub open_floats : List Float
   open_floats = cond (long_enough ns fs) (floats_written (open_of c window rise).detector fs) fs
-
-  -- an opening that answered 0, with numbers that are f32, as every number of that type is: all that theorems over runs ask
-  pub record AcceptedOpening : Type 0 where
-    pub answered : open_answer ≡ 0
-    pub handed : Handed c rise
 
 -- ---- detect, flush and reset
 

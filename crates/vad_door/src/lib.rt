@@ -7,7 +7,7 @@ ghost use Rattle.vad_detector.specs.Opening.{reset_of};
 ghost use Rattle.vad_detector.specs.Readings.{undecided_read, analyzed_read, rows_read, talk_read, open_start};
 ghost use Rattle.vad_memory.specs.DetectorState.{kept_at, detector_at, long_enough, readable, numbers_written, floats_written};
 ghost use Rattle.vad_detector.specs.Run.{Detect, Flush, Reset, answered};
-ghost use Rattle.vad_door.specs.DetectorDoor.{open_answer, open_numbers, open_floats, AcceptedOpening, call_answer, call_numbers, call_floats, detected_rows, flushed_rows, read_answer, floor_word, start_word, segment_word};
+ghost use Rattle.vad_door.specs.DetectorDoor.{open_answer, open_numbers, open_floats, call_answer, call_numbers, call_floats, detected_rows, flushed_rows, read_answer, floor_word, start_word, segment_word};
 ghost use Rattle.vad_door.specs.Inside.{heard_of, rows_heard, word_of, WordsSmall, read_by};
 
 use float::to_bits;
@@ -34,7 +34,6 @@ pub fn open(
     ensures value { result ≡ open_answer config window.now speech_floor_rise numbers.old floats.old }
     ensures numbers_left { numbers.new ≡ open_numbers config window.now speech_floor_rise numbers.old floats.old }
     ensures floats_left { floats.new ≡ open_floats config window.now speech_floor_rise numbers.old floats.old }
-    ensures accepted_opening { result ≡ 0 → AcceptedOpening config window.now speech_floor_rise numbers.old floats.old }
 {
     if !long_enough(numbers, floats) {
         return MALFORMED;

@@ -131,7 +131,7 @@ fn sum_of_squares(frame: &[f32], window: &[f32]) -> f32
 }
 
 // The windowed root mean square; a short last frame counts as filled up with zeros.
-fn frame_energy(frame: &[f32], window: &[f32]) -> f32
+pub fn frame_energy(frame: &[f32], window: &[f32]) -> f32
     requires { length frame.now ≤ length window.now }
     ensures { result ≡ energy_of window.now frame.now }
 {

@@ -1,31 +1,26 @@
 -- Arrays put into their places in the floats, one behind the other. Assumes nothing.
 use mathlib.Core.Path.{◌≡◌, refl, sym, ap, ◌∙◌}
-use mathlib.Core.Bool.{Bool, true, false, not, cond}
-use mathlib.Core.List.{List, ◌∷◌, ◌++◌, append_assoc}
-use Prim.Native.Nat.{ℕ, ◌+◌, ◌-◌, ◌≤◌, ◌<◌}
+use mathlib.Core.Bool.{Bool, true, false, cond}
+use mathlib.Core.List.{List, ◌++◌, append_assoc}
+use Prim.Native.Nat.{ℕ, ◌+◌, ◌-◌, ◌≤◌}
 use native.Mathlib.Omega.{arith}
 use lib.ListN.{length, take, drop, length-take, length-drop, length-append, take-append-drop}
 use lib.Dec.{eqb}
-use borrow.Author.Tests.{eq-eqb, ne_eqb, lt-leb, le-leb}
-use lib.Seq.{sets, drop-drop, take_at, drop_at}
+use borrow.Author.Tests.{eq-eqb, ne_eqb}
+use lib.Seq.{drop-drop, take_at, drop_at}
 use lib.Ieee.{Float}
 use Rattle.vad_layout.proofs.InFloats as in-floats
-use Rattle.ranges.specs.Sizes.{frame_most, warmup_most, block_most}
-use Rattle.refusals.specs.Refusals.{refusal, bare, first_of}
+use Rattle.ranges.specs.Sizes.{frame_most, warmup_most}
 use Rattle.vad_state.specs.Arrays.{filled_of}
 use Rattle.vad_state.proofs.Fills.{filled_length}
-use Rattle.vad_state.specs.State.{state_of, window_of, sound_of}
+use Rattle.vad_state.specs.State.{state_of, window_of}
 use Rattle.vad_state.specs.declared.Kept.{Kept}
 use Rattle.vad_state.specs.declared.VadDetector.{VadDetector}
-use Rattle.vad_state.proofs.Parts.{parts}
-use Rattle.vad_call.specs.Calls.{values_most, energies_most, values_of, measured_of, joined_of, ran_of, hearing_of}
-use Rattle.vad_call.specs.Checks.{block_refusals, check_of}
-use Rattle.vad_call.specs.Inside.{settled_of}
-use Rattle.vad_call.proofs.Calls.{hearing_fits, hearing_settled}
+use Rattle.vad_call.specs.Calls.{joined_of, settled_of}
 use Rattle.vad_call.specs.declared.Detected.{Detected}
 use Rattle.vad_call.specs.declared.Heard.{Heard}
 use Rattle.vad_lent.specs.Inside.{put_in, settled_in}
-use Rattle.vad_lent.specs.Lent.{state_at, sound_at, check_at, arrays_in}
+use Rattle.vad_lent.specs.Lent.{state_at, arrays_in}
 
 -- the three parts that are lent have their lengths
 pub parts_long : (fs : List Float) → in-floats.singles ≤ length fs → (length (take frame_most fs) ≡ frame_most) × (length (take frame_most (drop in-floats.carry fs)) ≡ frame_most) × (length (take warmup_most (drop in-floats.warmup fs)) ≡ warmup_most)
@@ -42,24 +37,6 @@ pub state_lent : (k : Kept) (fs window carry warmup : List Float) → window ≡
     → state_of k window carry warmup ≡ state_at k fs
 unfolding state_at
 state_lent k fs window carry warmup w c h = rw (w, c, h)
-
--- memory that is too short, and memory that is long enough
-module _ (k : Kept) (fs : List Float) where
-  pub sound_short : length fs < in-floats.singles → false ≡ sound_at k fs
-  unfolding sound_at
-  sound_short short = rw (lt-leb in-floats.singles (length fs) short)
-
-  pub check_short : (xs : List Float) → length fs < in-floats.singles → refusal 19 0 ≡ check_at k fs xs
-  unfolding check_at first_of
-  check_short xs short = rw (← sound_short short)
-
-  pub sound_long : in-floats.singles ≤ length fs → sound_at k fs ≡ sound_of (state_at k fs)
-  unfolding sound_at
-  sound_long long = rw (le-leb in-floats.singles (length fs) long)
-
-  pub check_long : (xs : List Float) → in-floats.singles ≤ length fs → check_at k fs xs ≡ check_of (state_at k fs) xs
-  unfolding check_at check_of state_at
-  check_long xs long = ap (λ (b : Bool). first_of (bare 19 (not b) ∷ block_refusals k.stream.processed_samples xs)) (sound_long long)
 
 -- each part is lent and written before the next is
 module _ (n : ℕ) (fs carry held x y z : List Float) where
@@ -133,32 +110,18 @@ module _ (k : Kept) (fs : List Float) (h : Heard) (values energies : List Float)
       go true = joined k h.kept carry held fs
       go false = sym (arrays_back k fs)
 
--- what `hear` heard on the parts that are lent, and what the call leaves in the floats
-module _ (finish : Bool) (k : Kept) (fs : List Float) (sound : sound_of (state_at k fs) ≡ true) (long : in-floats.singles ≤ length fs) (xs : List Float) (most : length xs ≤ block_most) (room : ℕ)
-    (d : VadDetector) (same : d ≡ state_at k fs) (h : Heard) (e : h ≡ hearing_of finish d xs room) where
-  window_long : length (state_at k fs).window ≡ frame_most
-  unfolding state_at
-  window_long = (parts_long fs long).0
+-- the answer of a call from what was heard, and what it leaves in the floats
+module _ (k : Kept) (fs : List Float) (h : Heard) (values energies : List Float) (ran : Detected) (same : ran ≡ settled_of h values energies (state_at k fs)) where
+  pub ran_refusal : h.refusal ≡ ran.refusal
+  unfolding settled_of
+  ran_refusal = sym (ap (λ (x : Detected). x.refusal) same)
 
-  carry_long : length (state_at k fs).carry ≡ frame_most
-  unfolding state_at
-  carry_long = (parts_long fs long).1
+  pub ran_tally : h.tally ≡ ran.tally
+  unfolding settled_of
+  ran_tally = sym (ap (λ (x : Detected). x.tally) same)
 
-  pub lent_heard : h ≡ hearing_of finish (state_at k fs) xs room
-  lent_heard = e ∙ ap (λ (x : VadDetector). hearing_of finish x xs room) same
-
-  -- what `settle_at` asks
-  pub lent_fits : h.refusal.number ≡ 0 → (h.consumed + h.kept.stream.carry_len ≤ values_most) × (h.kept.stream.carry_len ≤ frame_most) × (h.kept.desk.held ≤ warmup_most)
-  lent_fits = hearing_fits finish (state_at k fs) (parts (state_at k fs) sound) xs most window_long carry_long room h lent_heard
-
-  pub ran_arrays : (blank to : List Float) → length blank ≡ values_most → length to ≡ energies_most → (values energies : List Float) → values ≡ sets blank 0 (values_of d xs) → energies ≡ sets to 0 (measured_of finish d xs)
-      → (out : List Float) → out ≡ settled_in k.rules.lengths.frame_length h values energies fs → out ≡ arrays_in (ran_of finish (state_at k fs) xs room).detector fs
-  ran_arrays blank to b t values energies v u out o =
-      let heard = v ∙ ap (λ (x : VadDetector). sets blank 0 (values_of x xs)) same in
-      let measured = u ∙ ap (λ (x : VadDetector). sets to 0 (measured_of finish x xs)) same in
-      o
-      ∙ settled_arrays k fs h values energies
-      ∙ ap (λ (x : Detected). arrays_in x.detector fs) (hearing_settled finish (state_at k fs) (parts (state_at k fs) sound) xs most window_long carry_long room h lent_heard blank to b t values energies heard measured)
+  pub ran_arrays : (out : List Float) → out ≡ settled_in k.rules.lengths.frame_length h values energies fs → out ≡ arrays_in ran.detector fs
+  ran_arrays out e = e ∙ settled_arrays k fs h values energies ∙ sym (ap (λ (x : Detected). arrays_in x.detector fs) same)
 
 -- the two ways through `settle`
 module _ (n : ℕ) (h : Heard) (values energies fs : List Float) where

@@ -3,9 +3,10 @@ ghost use Rattle.std.specs.Prelude.{◌≡◌, true, ◌+◌, ◌≤◌, length,
 ghost use Rattle.vad_layout.specs.Layout.{carry_first, warmup_first, singles_first};
 ghost use Rattle.ranges.specs.Sizes.{frame_most, warmup_most, block_most, received_most};
 ghost use Rattle.vad_state.specs.State.{sound_of};
-ghost use Rattle.vad_call.specs.Calls.{values_most, energies_most, ran_of, written_of, hearing_of};
+ghost use Rattle.vad_call.specs.Calls.{values_most, energies_most, ran_of, written_of};
+ghost use Rattle.vad_call.specs.Checks.{check_of};
 ghost use Rattle.vad_lent.specs.Inside.{put_in, settled_in};
-ghost use Rattle.vad_lent.specs.Lent.{state_at, sound_at, check_at, arrays_in};
+ghost use Rattle.vad_lent.specs.Lent.{state_at, arrays_in};
 
 use refusals::Refusal;
 use vad_call::checks::check;
@@ -36,24 +37,17 @@ fn warmup_in(floats: &[f32]) -> &[f32]
 }
 
 pub fn sound_at(kept: Kept, floats: &[f32]) -> bool
-    ensures { result ≡ sound_at kept floats.now }
+    requires { singles_first ≤ length floats.now }
+    ensures { result ≡ sound_of (state_at kept floats.now) }
 {
-    if floats.len() < in_floats::SINGLES {
-        return false;
-    }
     sound_lent(kept, window_in(floats), carry_in(floats), warmup_in(floats))
 }
 
 // 19, 15, 16 and 17, in this order.
 pub fn check_at(kept: Kept, floats: &[f32], samples: &[f32]) -> Refusal
-    ensures { result ≡ check_at kept floats.now samples.now }
+    requires { singles_first ≤ length floats.now }
+    ensures { result ≡ check_of (state_at kept floats.now) samples.now }
 {
-    if floats.len() < in_floats::SINGLES {
-        return Refusal {
-            number: 19,
-            carries: 0,
-        };
-    }
     check(
         kept,
         window_in(floats),
@@ -109,7 +103,7 @@ pub fn hear_at(
 ) -> Heard
     requires floats_value { sound_of (state_at kept floats.old) ≡ true }
     requires singles_first_in_bounds { (singles_first ≤ length floats.old) × (length samples.now ≤ block_most) × (kept.stream.processed_samples + length samples.now ≤ received_most) }
-    ensures value { result ≡ hearing_of finish (state_at kept floats.old) samples.now (length rows.old) }
+    ensures refusal_value { (result.refusal ≡ (ran_of finish (state_at kept floats.old) samples.now (length rows.old)).refusal) × (result.tally ≡ (ran_of finish (state_at kept floats.old) samples.now (length rows.old)).tally) × (result.kept ≡ (ran_of finish (state_at kept floats.old) samples.now (length rows.old)).detector.kept) }
     ensures floats_left { floats.new ≡ arrays_in (ran_of finish (state_at kept floats.old) samples.now (length rows.old)).detector floats.old }
     ensures rows_left { rows.new ≡ written_of finish (state_at kept floats.old) samples.now rows.old }
 {

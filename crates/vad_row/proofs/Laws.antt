@@ -6,7 +6,7 @@ use native.Mathlib.Nat.{le_refl, le_trans, div-mul-le_self}
 use native.Mathlib.Omega.{arith}
 use lib.ListN.{length, length-append}
 use Rattle.lists.specs.Every.{Every}
-use Rattle.vad_row.specs.Rows.{fields_of, row_width, room_of, flat, row_at, rows_at, reported, talk_in, talk_of, InOrder}
+use Rattle.vad_row.specs.Rows.{fields_of, row_width, room_of, flat, reported, talk_in, talk_of, InOrder}
 use Rattle.vad_row.specs.declared.Row.{Row}
 use Rattle.vad_row.specs.declared.Report.{Report}
 use Rattle.vad_row.specs.declared.Report.TheVariants.{NoRow, OneRow}
@@ -31,12 +31,6 @@ pub flat_append : (a b : List Row) → flat (a ++ b) ≡ flat a ++ flat b
 unfolding flat
 flat_append [] b = refl
 flat_append (r ∷ a) b = rw (flat_append a b, append_assoc (fields_of r) (flat a) (flat b))
-
--- rows are read back from where they were written, whatever stands behind them
-pub rows_back : (rs : List Row) (ns : List ℕ) → rows_at (length rs) (flat rs ++ ns) ≡ rs
-unfolding flat fields_of row_at rows_at
-rows_back [] ns = refl
-rows_back (r ∷ rs) ns = rw (rows_back rs ns)
 
 -- what a frame reports
 pub report_le : (p : Report) → length (reported p) ≤ 1

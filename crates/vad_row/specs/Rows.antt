@@ -1,5 +1,5 @@
 -- Document 01's rows: their fields, rows as numbers, what they count as talk, and their order.
-use Rattle.std.specs.Prelude.{List, [], ◌∷◌, ◌++◌, map, ℕ, zero, suc, ◌+◌, ◌-◌, ◌/◌, ◌≤◌, ◌<◌, length, drop, get_or}
+use Rattle.std.specs.Prelude.{List, [], ◌∷◌, ◌++◌, map, ℕ, ◌+◌, ◌-◌, ◌/◌, ◌≤◌, ◌<◌, length}
 use Rattle.vad_row.specs.declared.Row.{Row}
 use Rattle.vad_row.specs.declared.Report.{Report}
 use Rattle.vad_row.specs.declared.Report.TheVariants.{NoRow, OneRow}
@@ -33,23 +33,6 @@ unfoldable pub flat : List Row → List ℕ
 flat [] = []
 flat (r ∷ rs) = fields_of r ++ flat rs
 
--- the row that numbers begin with, and so many rows one after the other: what a reader takes out of a slice
-unfoldable pub row_at : List ℕ → Row
-row_at ns =
-    record {
-      start_sample = get_or ns 0 0;
-      end_sample = get_or ns 1 0;
-      start_time = get_or ns 2 0;
-      end_time = get_or ns 3 0;
-      score_total = get_or ns 4 0;
-      loud_frames = get_or ns 5 0;
-      mean_energy = get_or ns 6 0;
-    }
-
-unfoldable pub rows_at : ℕ → List ℕ → List Row
-rows_at zero ns = []
-rows_at (suc n) ns = row_at ns ∷ rows_at n (drop row_width ns)
-
 -- what a frame reports, as rows
 unfoldable pub reported : Report → List Row
 reported NoRow = []
@@ -72,8 +55,3 @@ talk_of (r ∷ rs) = talk_in r + talk_of rs
 abbrev pub InOrder : ℕ → List Row → Type 0
 InOrder from [] = Unit {0}
 InOrder from (r ∷ rs) = (from ≤ r.start_sample) × (r.start_sample < r.end_sample) × InOrder r.end_sample rs
-
--- the same of their times: each starts when the one before it has ended, or later, and ends after its start
-abbrev pub InTime : ℕ → List Row → Type 0
-InTime from [] = Unit {0}
-InTime from (r ∷ rs) = (from ≤ r.start_time) × (r.start_time < r.end_time) × InTime r.end_time rs

@@ -1,10 +1,10 @@
--- The noise floor is always a number, whatever sound floor came before; in a run it is an f32 between `energy_floor` and the greater of `energy_floor` and 2^18. The energy total of an open segment is at most 2^60. Assumes nothing.
+-- The noise floor is always a number: an f32 between `energy_floor` and the greater of `energy_floor` and 2^18. The energy total of an open segment is at most 2^60. Assumes nothing.
 use mathlib.Core.Path.{◌≡◌, refl, sym, ap, ◌∙◌, subst}
 use mathlib.Core.Logic.{◌⊎◌, inl, inr, ⊎_elim}
 use mathlib.Core.Bool.{Bool, true, false, ◌&&◌, ◌||◌, cond}
 use mathlib.Core.List.{List, [], ◌∷◌}
-use Prim.Native.Nat.{ℕ, zero, suc, ◌+◌, ◌-◌, ◌*◌, ◌^◌, ◌≤◌, ◌<◌, max}
-use native.Mathlib.Nat.{zero-mul, le_refl, le_of_lt, lt_of_lt_of_le, mul-pos, zero-lt-suc}
+use Prim.Native.Nat.{ℕ, zero, suc, ◌-◌, ◌*◌, ◌^◌, ◌≤◌, ◌<◌, max}
+use native.Mathlib.Nat.{zero-mul, le_refl, le_of_lt, mul-pos, zero-lt-suc}
 use native.Mathlib.Omega.{arith}
 use borrow.Author.Tests.{ltb-false}
 use lib.Dec.{T, ltb, eqb, lit<, lit≤, ltb→lt, lt→ltb, eqb→eq}
@@ -151,28 +151,27 @@ blend_minus x e n k h g =
 abbrev pub blend_of : Float → Float → Float → Rounded
 blend_of w x e = fused_of w x (mul binary32 (sub binary32 one32 w) e)
 
--- what bounds a blend with the floor x: a value n / k of f32 that is at least 2^18 and at least x, and no more than one of them
-record Bound (x : Float) (n k : ℕ) : Type 0 where
-  some : 0 < k
-  held : Held binary32 n k
-  wide : 2 ^ 18 * k ≤ n
-  over : Low x n k
-  back : (v : Float) → Low v n k → Low v (2 ^ 18) 1 ⊎ Low v (num x) (den x)
+-- what bounds a floor: a value n / k of f32 that is at least 2^18 and at least `energy_floor`, and no more than one of them
+pub record Bound (least : Float) (n k : ℕ) : Type 0 where
+  pub some : 0 < k
+  pub held : Held binary32 n k
+  pub wide : 2 ^ 18 * k ≤ n
+  pub over : Low least n k
+  pub back : (v : Float) → Low v n k → Low v (2 ^ 18) 1 ⊎ T (le v least)
 
--- there is one, however large x is: its own value, or 2^18
-bound_of : (x : Float) → Least x → (n : ℕ) × (k : ℕ) × Bound x n k
+-- there is one
+pub bound_of : (least : Float) → Least least → (n : ℕ) × (k : ℕ) × Bound least n k
 bound_of x t =
     let n = num x in
     let k = den x in
     let v : HasValue x false n k = own_value x t.1 in
     elim (side (2 ^ 18 * k) n) [
-      | inl l ↦ (n, k, record { some = den_pos x; held = held_own binary32 x false n k t.0 (den_pos x) v; wide = le_of_lt l; over = low_value x n k v; back = λ u h. inr h })
+      | inl l ↦ (n, k, record { some = den_pos x; held = held_own binary32 x false n k t.0 (den_pos x) v; wide = le_of_lt l; over = low_value x n k v; back = λ u h. inr (le_of_mag u x n k (den_pos x) v (low_mag u n k h)).1 })
       | inr g ↦ (2 ^ 18, 1, record { some = lit< tt; held = held_small binary32 (2 ^ 18) (lit≤ tt); wide = lit≤ tt; over = low_wider x n k (2 ^ 18) 1 (den_pos x) (low_value x n k v) (omega arith); back = λ u h. inl h })
     ]
 
-blend_found : (w x e : Float) (n k : ℕ) → Bound x n k → Weight w → Low e (2 ^ 17) 1 → Yields (blend_of w x e) (λ v. Low v n k)
-blend_found w x e n k b t g =
-    let h : Low x n k = b.over in
+blend_found : (least w x e : Float) (n k : ℕ) → Bound least n k → Weight w → Low x n k → Low e (2 ^ 17) 1 → Yields (blend_of w x e) (λ v. Low v n k)
+blend_found least w x e n k b t h g =
     rw one_is
     (⊎_elim (λ l. blend_low w x e n k b.some t.0 b.held b.wide l h g)
     (λ z. subst (λ (v : Float). Yields (fused_of v x (mul binary32 (sub binary32 one v) e)) (λ u. Low u n k)) (sym z)
@@ -181,39 +180,15 @@ blend_found w x e n k b t g =
 
 -- ---- the floor
 
--- There is always a number, so the 0 that stands for none is never taken: after any f32 above 0, the largest among them. It is from +0 to 2^18, or to the old floor.
-pub blend_always : (w x e : Float) → Weight w → Least x → Low e (2 ^ 17) 1 → Yields (blend_of w x e) (λ v. Low v (2 ^ 18) 1 ⊎ Low v (num x) (den x))
-blend_always w x e u t g =
-    let b = bound_of x t in
-    let y = blend_found w x e b.0 b.1 b.2 u g in
-    (y.0, y.1, y.2, b.2.back y.0 y.3)
-
--- a floor that is not malformed: an f32 that is finite and not below `energy_floor`, as the test of a state asks it
-abbrev pub FloorSound : Float → Float → Type 0
-FloorSound least x = T (fits binary32 x) × T (finite x) × (lt x least ≡ false)
-
-some : (n : ℕ) (d e : ℤ) → Least (fin false n d) → 0 < n * up d * down e
-some n d e t = mul-pos (mul-pos (ltb→lt 0 n t.1) (up_pos d)) (down_pos e)
-
-sound_above : (least x : Float) → Least least → FloorSound least x → Least x
-unfolding lt
-sound_above least nan t h = absurd h.1
-sound_above least (inf s) t h = absurd h.1
-sound_above nan (fin s m e) t h = absurd t.1
-sound_above (inf u) (fin s m e) t h = absurd t.1
-sound_above (fin true n d) (fin s m e) t h = absurd t.1
-sound_above (fin false n d) (fin true m e) t h = absurd (omega (arith, ltb-false 0 (m * up e * down d + n * up d * down e) h.2, some n d e t))
-sound_above (fin false n d) (fin false m e) t h =
-    let a : n * up d * down e ≤ m * up e * down d = ltb-false (m * up e * down d) (n * up d * down e) h.2 in
-    (h.0, lt→ltb 0 m (first_pos m (up e) (first_pos (m * up e) (down d) (lt_of_lt_of_le (some n d e t) a))))
-
--- so there is a number for every sound floor
-pub floor_always : (least w x e : Float) → Least least → Weight w → FloorSound least x → Low e (2 ^ 17) 1 → Yields (blend_of w x e) (λ v. Low v (2 ^ 18) 1 ⊎ Low v (num x) (den x))
-floor_always least w x e t u h = blend_always w x e u (sound_above least x t h)
-
 -- an f32, at least `energy_floor`, and at most the greater of 2^18 and `energy_floor`
 abbrev pub FloorHeld : Float → Float → Type 0
 FloorHeld least x = T (fits binary32 x) × T (le least x) × (Low x (2 ^ 18) 1 ⊎ T (le x least))
+
+floor_low : (least x : Float) (n k : ℕ) → Least least → Bound least n k → FloorHeld least x → Low x n k
+floor_low least x n k t b h =
+    ⊎_elim (λ l. low_wider x (2 ^ 18) 1 n k (lit< tt) l (omega (arith, b.wide)))
+    (λ l. low_wider x (num least) (den least) n k (den_pos least) (low_of_le x least (num least) (den least) (above_sign x (above_of_le least x t.1 h.1)) (own_value least t.1) l) (mag_size least n k (low_mag least n k b.over)))
+    h.2
 
 le_self : (x : Float) → T (positive x) → T (le x x)
 le_self x p = le_of_values x x (num x) (den x) (num x) (den x) (den_pos x) (den_pos x) (own_value x p) (own_value x p) (le_refl (num x * den x))
@@ -241,38 +216,18 @@ at_least_held least v n k t u h b = go (lt v least) (not_below least v n k t.1 h
     go true f = least_held least t
     go false f = (u, f refl, b)
 
-held_low : (least x : Float) → Least least → FloorHeld least x → Low x (2 ^ 18) 1 ⊎ Low x (num least) (den least)
-held_low least x t h = ⊎_elim (λ l. inl l) (λ l. inr (low_of_le x least (num least) (den least) (above_sign x (above_of_le least x t.1 h.1)) (own_value least t.1) l)) h.2
-
--- 'the noise floor isn't finite': it is
-pub floor_is_finite : (least x : Float) → Least least → FloorHeld least x → T (finite x)
-floor_is_finite least x t h =
-    ⊎_elim (λ l. mag_finite x (2 ^ 18) 1 (low_mag x (2 ^ 18) 1 l)) (λ l. mag_finite x (num least) (den least) (low_mag x (num least) (den least) l)) (held_low least x t h)
-
-held_least : (least x : Float) → Least least → FloorHeld least x → Least x
-held_least least x t h = (h.0, finite_above x (above_of_le least x t.1 h.1) (floor_is_finite least x t h))
-  where
-    finite_above : (x : Float) → T (above x) → T (finite x) → T (positive x)
-    finite_above nan a f = absurd f
-    finite_above (inf s) a f = absurd f
-    finite_above (fin true m e) a f = absurd a
-    finite_above (fin false m e) a f = a
-
--- what is at most a floor that is held is at most 2^18 or `energy_floor`
-held_under : (least x v : Float) → Least least → FloorHeld least x → Low v (num x) (den x) → Low v (2 ^ 18) 1 ⊎ T (le v least)
-held_under least x v t h l =
-    let under : (n k : ℕ) → Low x n k → Low v n k = λ n k b. low_wider v (num x) (den x) n k (den_pos x) l (mag_size x n k (low_mag x n k b)) in
-    ⊎_elim (λ b. inl (under (2 ^ 18) 1 b))
-    (λ b. inr (le_of_mag v least (num least) (den least) (den_pos least) (own_value least t.1) (low_mag v (num least) (den least) (under (num least) (den least) b))).1)
-    (held_low least x t h)
-
--- in a run there is a number too, and the new floor is held as the old one was
+-- there is always a number, so the 0 that stands for none is never taken; and the new floor is held as the old one was
 pub floor_found : (least w x e : Float) → Least least → Weight w → FloorHeld least x → Low e (2 ^ 17) 1 → Yields (blend_of w x e) (λ v. Low v (2 ^ 18) 1 ⊎ T (le v least)) × FloorHeld least (floor_of least w x e)
 unfolding floor_of
 floor_found least w x e t u h g =
-    let y = blend_always w x e u (held_least least x t h) g in
-    let z : Low y.0 (2 ^ 18) 1 ⊎ T (le y.0 least) = ⊎_elim (λ l. inl l) (λ l. held_under least x y.0 t h l) y.3 in
-    ((y.0, y.1, y.2, z), rw y.1 (⊎_elim (λ l. at_least_held least y.0 (2 ^ 18) 1 t y.2 l z) (λ l. at_least_held least y.0 (num x) (den x) t y.2 l z) y.3))
+    let b = bound_of least t in
+    let y = blend_found least w x e b.0 b.1 b.2 u (floor_low least x b.0 b.1 t b.2 h) g in
+    let z = b.2.back y.0 y.3 in
+    ((y.0, y.1, y.2, z), rw y.1 (at_least_held least y.0 b.0 b.1 t y.2 y.3 z))
+
+-- 'the noise floor isn't finite': it is
+pub floor_is_finite : (least x : Float) → Least least → FloorHeld least x → T (finite x)
+floor_is_finite least x t h = let b = bound_of least t in mag_finite x b.0 b.1 (low_mag x b.0 b.1 (floor_low least x b.0 b.1 t b.2 h))
 
 -- ---- over frames
 

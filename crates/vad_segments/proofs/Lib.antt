@@ -2,7 +2,6 @@ pub mod Laws
 pub mod Rooms
 pub mod Turns
 pub mod Ordered
-pub mod Times
 pub mod Undecided
 pub mod Counts
 pub mod Calls

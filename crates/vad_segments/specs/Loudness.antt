@@ -35,8 +35,7 @@ weight_of rise smoothing speech floor energy = cond (speech && lt floor energy) 
 unfoldable pub at_least : Float → Float → Float
 at_least least x = cond (lt x least) least x
 
--- weight × floor + (1 − weight) × energy, the first product fused. 0 stands where there is no number; `floor_always` in proofs/Floor shows that there is one for every
--- sound floor, either weight and every frame's energy.
+-- weight × floor + (1 − weight) × energy, the first product fused; 0 stands where there is no number, and `floor_found` in proofs/Floor shows that in the domain there always is one
 unfoldable pub floor_of : Float → Float → Float → Float → Float
 floor_of least weight floor energy = at_least least (or_zero (fused_of weight floor (mul binary32 (sub binary32 one32 weight) energy)))
 

@@ -6,7 +6,7 @@ use Rattle.vad_segments.specs.declared.Track.{Track}
 
 -- 'Warm-up holds frames until the count is reached or flush comes.'
 unfoldable pub holds_of : Bool → ℕ → ℕ → Bool
-holds_of finish warmup held = not finish && ltb held warmup
+holds_of finish count held = not finish && ltb held count
 
 -- 'next = the lesser of carry start and the open segment's start'
 unfoldable pub next_of : ℕ → ActiveSegment → ℕ

@@ -2,13 +2,12 @@
 use mathlib.Core.Path.{◌≡◌, refl, sym, ap, ◌∙◌}
 use mathlib.Core.List.{List, [], ◌∷◌, ◌++◌, append_assoc, append-nil}
 use Prim.Native.Nat.{ℕ, zero, suc, ◌+◌, ◌-◌, ◌≤◌, ◌<◌}
-use native.Mathlib.Decide.{dec_lt}
 use native.Mathlib.Numerals.{add-one}
 use native.Mathlib.Omega.{arith}
 use lib.ListN.{length, take, drop, get_or, set, replicate, drop_of_length-le, length-append, length-drop, length-replicate}
-use lib.Seq.{sets, sets-eq, take-append_seam, drop-append_seam, drop-cons, drop-drop, drop-append-le, take_at, drop_at, take_all, take-length, drop-length, length-sets, length-take-le}
+use lib.Seq.{sets, sets-eq, take-append_seam, drop-append_seam, drop-cons, drop-drop, drop-append-le, take_at, drop_at, take-length, drop-length, length-sets, length-take-le}
 use lib.Ieee.{Float, nan}
-use Rattle.lists.proofs.Stores.{sets_cons, sets_all, clear_end}
+use Rattle.lists.proofs.Stores.{sets_cons, sets_all}
 use Rattle.float.specs.Numbers.{zero32}
 use Rattle.vad_state.specs.Arrays.{filled_of}
 
@@ -24,10 +23,10 @@ put_filled n xs h =
     let long = length-replicate n zero32 in
     sets_all (replicate n zero32) xs (omega arith) ∙ ap (λ (zs : List Float). xs ++ zs) (drop_replicate (length xs) n zero32)
 
--- what `clear` leaves, from a place inside and from one past the end
-cleared_inside : (to : List Float) (i : ℕ) → i ≤ length to → sets to i (replicate (length to - i) zero32) ≡ filled_of (length to) (take i to)
+-- what `clear` leaves
+pub cleared : (to : List Float) (i : ℕ) → i ≤ length to → sets to i (replicate (length to - i) zero32) ≡ filled_of (length to) (take i to)
 unfolding filled_of
-cleared_inside to i h =
+cleared to i h =
     let zs = replicate (length to - i) zero32 in
     let many = length-replicate (length to - i) zero32 in
     let first : i ≡ length (take i to) = sym (length-take-le i to h) in
@@ -37,15 +36,6 @@ cleared_inside to i h =
     ∙ ap (λ (ys : List Float). (take i to ++ zs) ++ ys) none
     ∙ append-nil (take i to ++ zs)
     ∙ ap (λ (k : ℕ). take i to ++ replicate (length to - k) zero32) first
-
-cleared_past : (to : List Float) (i : ℕ) → length to ≤ i → sets to i (replicate (length to - i) zero32) ≡ filled_of (length to) (take i to)
-unfolding filled_of
-cleared_past to i h =
-    let none : length to - length to ≡ 0 = omega arith in
-    clear_end to i (length to) zero32 h ∙ sym (append-nil to) ∙ rw (take_all i to h, none)
-
-pub cleared : (to : List Float) (i : ℕ) → sets to i (replicate (length to - i) zero32) ≡ filled_of (length to) (take i to)
-cleared to i = elim (dec_lt i (length to)) [ yes l ↦ cleared_inside to i (omega arith) | no g ↦ cleared_past to i (omega arith) ]
 
 -- ---- parts
 

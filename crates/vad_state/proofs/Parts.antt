@@ -1,27 +1,22 @@
 -- What a sound state is, part by part. Assumes nothing.
-use mathlib.Core.Path.{◌≡◌, refl, sym, ap, ◌∙◌, subst}
-use mathlib.Core.Logic.{◌⊎◌}
+use mathlib.Core.Path.{◌≡◌, refl, sym, ap, ◌∙◌}
 use mathlib.Core.Bool.{Bool, true, false, not, ◌&&◌, ◌||◌, true≢false}
 use mathlib.Core.List.{List}
 use Prim.Native.Nat.{ℕ, ◌+◌, ◌*◌, ◌^◌, ◌≤◌, ◌<◌}
 use native.Mathlib.Omega.{arith}
 use borrow.Author.Tests.{not-true, lt-ltb, ltb-true, le-leb, leb-true, eq-eqb, eqb-true}
-use lib.Dec.{T, leb, ltb, eqb}
+use lib.Dec.{leb, ltb, eqb}
 use lib.ListN.{take}
-use lib.Ieee.{Float, binary32, le, lt, neg, fits}
-use lib.Ieee.Positive.{num, den}
+use lib.Ieee.{Float, lt, neg}
 use lib.Ieee.Scale.{finite}
 use Rattle.lists.proofs.Tests.{both}
 use Rattle.ranges.specs.Ranges.{within, all_within, in_domain}
-use Rattle.float.specs.Numbers.{zero32, one32}
-use Rattle.float.proofs.Bounds.{Low, Yields}
+use Rattle.float.specs.Numbers.{zero32}
 use Rattle.vad_config.specs.Domain.{received_in}
 use Rattle.vad_config.specs.Settings.{refusal_of, lengths_of}
 use Rattle.vad_config.specs.declared.Lengths.{Lengths}
 use Rattle.vad_config.proofs.Laws.{accepted, lengths_are}
 use Rattle.vad_config.proofs.Laws as settled
-use Rattle.vad_segments.specs.Loudness.{weight_of}
-use Rattle.vad_segments.proofs.Floor.{EnergyIn, blend_of, floor_rules, floor_always, weight_held}
 use Rattle.vad_segments.specs.Rooms.{LengthsWithin, ActiveWithin, Within, positions_first, counts_first}
 use Rattle.vad_segments.specs.declared.Rules.{Rules}
 use Rattle.vad_segments.specs.declared.ActiveSegmentState.{ActiveSegmentState}
@@ -29,7 +24,7 @@ use Rattle.vad_segments.specs.declared.ActiveSegment.{ActiveSegment}
 use Rattle.vad_segments.specs.declared.ActiveSegment.TheVariants.{Closed, Open}
 use Rattle.vad_segments.specs.declared.Track.{Track}
 use Rattle.ranges.specs.Sizes.{frame_most, warmup_most, received_most}
-use Rattle.vad_state.specs.State.{half32, loudest32, total32, window_of, carried_of, held_of, weights_in, same_lengths, settings_sound, carry_sound, track_sound, is_closed, held_sound, segment_sound, active_sound, sound_of}
+use Rattle.vad_state.specs.State.{loudest32, total32, window_of, carried_of, held_of, weights_in, same_lengths, settings_sound, carry_sound, track_sound, is_closed, held_sound, segment_sound, active_sound, sound_of}
 use Rattle.vad_state.specs.declared.Stream.{Stream}
 use Rattle.vad_state.specs.declared.Desk.{Desk}
 use Rattle.vad_state.specs.declared.VadDetector.{VadDetector}
@@ -311,19 +306,3 @@ module _ (d : VadDetector) (s : Sound d) where
     omega (arith, s.received, s.ended, s.talk),
     active_within d.kept.rules.config.hangover_frames d.kept.stream.processed_samples d.kept.desk.track.last_segment_end d.kept.desk.track.active_segment (accepted d.kept.rules.config s.settings).hangover_high s.received s.active,
   )
-
--- ---- the floor
-rise_in : (window : List Float) (rise : Float) → weights_in window rise ≡ true → T (le half32 rise) × T (le rise one32)
-unfolding weights_in
-rise_in window rise h = let r = both (le half32 rise) (le rise one32) (both (all_within zero32 window one32) (within half32 rise one32) h).1 in (subst T (sym r.0) tt, subst T (sym r.1) tt)
-
-module _ (d : VadDetector) (s : Sound d) where
-  -- in whatever sound state a frame is judged, its new floor is a number; the state's floats are f32, as every one of that type is
-  pub floor_number : T (fits binary32 d.kept.rules.config.energy_floor) → T (fits binary32 d.kept.rules.config.noise_smoothing) → T (fits binary32 d.kept.rules.speech_floor_rise) → T (fits binary32 d.kept.desk.track.noise_floor) → (speech : Bool) (e : Float) → EnergyIn e
-      → let x = d.kept.desk.track.noise_floor in Yields (blend_of (weight_of d.kept.rules.speech_floor_rise d.kept.rules.config.noise_smoothing speech x e) x e) (λ v. Low v (2 ^ 18) 1 ⊎ Low v (num x) (den x))
-  floor_number f g h t speech e i =
-      let r = d.kept.rules in
-      let x = d.kept.desk.track.noise_floor in
-      let in_range = rise_in (window_of d) r.speech_floor_rise s.handed in
-      let k = floor_rules r (accepted r.config s.settings) f g h in_range.0 in_range.1 in
-      floor_always r.config.energy_floor (weight_of r.speech_floor_rise r.config.noise_smoothing speech x e) x e k.least (weight_held r speech x e k) (t, subst T (sym s.floor_finite) tt, s.floor) i.1

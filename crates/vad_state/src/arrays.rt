@@ -26,8 +26,9 @@ pub fn put_first(to: &mut [f32], numbers: &[f32], n: usize)
     put(to, &numbers[0..n]);
 }
 
-// Zeros from a place on; none from a place past the end.
+// Zeros from a place on.
 pub fn clear(to: &mut [f32], from: usize)
+    requires { from ≤ length to.old }
     ensures { to.new ≡ filled_of (length to.old) (take from to.old) }
 {
     let mut i = from;
@@ -73,6 +74,7 @@ pub fn fill_warmup(to: &mut [f32; WARMUP_MOST], energies: &[f32])
 
 // The first n numbers stay.
 pub fn clear_past(to: &mut [f32; FRAME_MOST], n: usize)
+    requires { n ≤ frame_most }
     ensures { to.new ≡ filled_of frame_most (take n to.old) }
 {
     clear(to, n);

@@ -20,9 +20,8 @@ pub struct Demand {
     flushed: bool,
     received: u64,
     undecided: u64,
-    /// Where the latest row ended, and when.
+    /// Where the latest row ended.
     end: u64,
-    end_time: u64,
     rows: u64,
     talk: u64,
     /// Frames and loud frames of the latest calls, the latest first.
@@ -43,7 +42,6 @@ impl Demand {
             received: 0,
             undecided: 0,
             end: 0,
-            end_time: 0,
             rows: 0,
             talk: 0,
             frames: VecDeque::new(),
@@ -69,10 +67,7 @@ impl Demand {
                 self.undecided <= start,
                 "never before an undecided position given earlier"
             );
-            let (from, to) = (fields[row::START_TIME], fields[row::END_TIME]);
-            assert!(self.end_time <= from && from < to, "times in order");
             self.end = end;
-            self.end_time = to;
             self.rows += 1;
             self.talk += end - start;
         }

@@ -1,5 +1,3 @@
-use Prim.Native.Nat.{◌^◌, ◌<◌}
-use Rattle.refusals.proofs.Answers.{answer_whole}
 use Rattle.dc_door.proofs.Door.{bias_read_lem}
 use borrow.Author.Rules.{rules}
 use Rattle.dc_door.proofs.bias.Statement.{statement}
@@ -24,10 +22,7 @@ returns : tie.Need-returns
 returns c =
     let r = c.before.before.dc-bias in
     let e = rw c.before.before.before.filter-at.ensures at r.ensures in
-    let bits = c.before.to-bits in
-    let small : bits.result < 2 ^ 55 = search rules in
-    let word = answer_whole r.result.refusal bits.result c.answer.result c.answer.ensures small in
-    let p = rw bits.ensures at word in
+    let p = rw c.before.to-bits.ensures at c.answer.ensures in
     bias_read_lem c.before.before.before.before.before.args.state.now r.result e c.answer.result p
 
 pub bias-spec : {M : Type 1} → statement M

@@ -1,18 +1,12 @@
 use mathlib.Core.Path.{◌≡◌, ◌∙◌}
 use native.Mathlib.Omega.{arith}
 use borrow.Author.Tests.{ne_eqb}
-use Rattle.refusals.specs.Answers.{packed}
-use Rattle.refusals.proofs.Answers.{answer_whole}
 use borrow.Author.Rules.{rules}
 use Rattle.dc_door.proofs.keep.Statement.{statement}
 use Rattle.dc_door.proofs.keep.Tie as tie
 
 answer-requires : tie.Need-answer-requires
 answer-requires c κs = search rules
-
--- nothing of what is carried is cut off
-word : (k : tie.After-answer) → let s = k.before.before.args in k.answer.result ≡ packed s.number s.carried
-word k = let s = k.before.before in answer_whole s.args.number s.args.carried k.answer.result k.answer.ensures s.requires.1
 
 none : (k : tie.Then1) → k.before.before.before.args.number ≡ 0
 none k = let t = k.if1.true in omega arith
@@ -24,10 +18,10 @@ same_length : tie.Need-same-length
 same_length c = search rules
 
 returns : tie.Need-returns
-returns c = (word c.before.before.before.before.before, c.before.before.put-filter.ensures ∙ rw (none c.before.before.before.before))
+returns c = (c.before.before.before.before.before.answer.ensures, c.before.before.put-filter.ensures ∙ rw (none c.before.before.before.before))
 
 returns-2 : tie.Need-returns-2
-returns-2 c = (word c.before, rw (ne_eqb c.before.before.before.args.number 0 c.if1.false))
+returns-2 c = (c.before.answer.ensures, rw (ne_eqb c.before.before.before.args.number 0 c.if1.false))
 
 pub keep_spec : {M : Type 1} → statement M
 keep_spec = tie.close (tie.spec answer-requires put-filter-requires same_length returns returns-2)

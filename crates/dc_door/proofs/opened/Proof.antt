@@ -1,22 +1,14 @@
-use mathlib.Core.Path.{◌≡◌, refl, ◌∙◌}
-use lib.Ieee.{nan, binary32, of_bits, div}
+use mathlib.Core.Path.{◌∙◌}
 use Rattle.dc_door.proofs.Door.{five_room, five_rest, opened_few, opened_all}
 use borrow.Author.Rules.{rules}
 use Rattle.dc_door.proofs.opened.Statement.{statement}
 use Rattle.dc_door.proofs.opened.Tie as tie
 
--- the code's 0.0 / 0.0
-no_number : div binary32 (of_bits binary32 0) (of_bits binary32 0) ≡ nan
-unfolding div of_bits
-no_number = refl
-
-open-requires : tie.Need-open-requires
-open-requires c κs = search rules
+nothing-open-requires : tie.Need-nothing-open-requires
+nothing-open-requires c κs = search rules
 
 returns : tie.Need-returns
-returns c =
-    let s = c.before.before.before in
-    c.«open».ensures ∙ opened_few s.args.config s.args.coefficients.now _ no_number c.before.if1.true
+returns c = let s = c.before.before.before in opened_few s.args.config s.args.coefficients.now c.nothing-open.result c.nothing-open.ensures c.before.if1.true
 
 five-requires : tie.Need-five-requires
 five-requires c κs = search rules
@@ -33,25 +25,25 @@ part-five-end c = search rules
 five-requires-2 : tie.Need-five-requires-2
 five-requires-2 c κs = five_room c.before.before.before.before.args.coefficients.now c.before.before.if1.false
 
-open-requires-2 : tie.Need-open-requires-2
-open-requires-2 c κs = search rules
+open-requires : tie.Need-open-requires
+open-requires c κs = search rules
 
 returns-2 : tie.Need-returns-2
 returns-2 c =
     let s = c.before.before.before.before.before.before in
     let xs = s.args.coefficients.now in
-    c.open2.ensures ∙ rw (c.before.five2.ensures ∙ five_rest xs, c.before.before.before.five.ensures) (opened_all s.args.config xs c.before.before.before.before.if1.false)
+    c.«open».ensures ∙ rw (c.before.five2.ensures ∙ five_rest xs, c.before.before.before.five.ensures) (opened_all s.args.config xs c.before.before.before.before.if1.false)
 
 pub opened-spec : {M : Type 1} → statement M
 opened-spec =
     tie.close
     (tie.spec
-    open-requires
+    nothing-open-requires
     returns
     five-requires
     sub-five
     part-five-start
     part-five-end
     five-requires-2
-    open-requires-2
+    open-requires
     returns-2)

@@ -1,5 +1,5 @@
 use Rattle.std.proofs.Common.{ℕ, not, eqb, ap, ◌∙◌, rules}
-use Rattle.float.specs.Fields.{field_of}
+use Rattle.float.specs.Inside.{field_of}
 use Rattle.float.proofs.Words.{T_of}
 use Rattle.float.proofs.Decode.{finite_says}
 use Rattle.float.proofs.is_finite.Statement.{statement}

@@ -2,7 +2,7 @@ use Rattle.std.proofs.Common.{◌≡◌, ℕ, ◌+◌, ◌-◌, ◌*◌, ◌^◌
 use Rattle.float.proofs.sqrt.Statement.{statement}
 use Rattle.float.proofs.sqrt.Tie as tie
 use lib.Ieee.{Float, binary32, round, fits, toBits}
-use Rattle.float.specs.Fields.{field_of, M}
+use Rattle.float.specs.Inside.{field_of, M}
 use Rattle.float.specs.Finite.{rounded}
 use Rattle.float.specs.Root.{twice_root}
 use Rattle.float.proofs.Words.{T_of}

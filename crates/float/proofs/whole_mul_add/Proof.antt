@@ -1,7 +1,6 @@
 use Rattle.std.proofs.Common.{◌≡◌, ℕ, sym, ap, ◌∙◌, ap₂, rules}
 use lib.Ieee.{Float, binary32, toBits}
-use Rattle.float.specs.Inside.{fused_bits_of}
-use Rattle.float.specs.Fields.{field_of}
+use Rattle.float.specs.Inside.{field_of, fused_bits_of}
 use Rattle.float.proofs.Words.{T_of}
 use Rattle.float.proofs.Decode.{decoded}
 use Rattle.float.proofs.Exact.{no_first, no_second, no_third, fused_is}

@@ -1,5 +1,5 @@
-use mathlib.Core.Path.{◌≡◌, refl, ap, ◌∙◌}
-use Prim.Native.Nat.{◌+◌, ◌-◌, ◌≤◌}
+use mathlib.Core.Path.{◌≡◌, refl, sym, ap, ◌∙◌}
+use Prim.Native.Nat.{◌+◌, ◌-◌, ◌^◌, ◌≤◌}
 use native.Mathlib.Omega.{arith}
 use lib.ListN.{length, take, length-take}
 use lib.Seq.{sets}
@@ -24,11 +24,11 @@ sound s = parts (state s) s.pre.0
 start-within : (s : tie.Start) → s.args.kept.stream.carry_start ≤ positions_first
 start-within s = let joined = (sound s).joined in let received = (sound s).received in omega arith
 
-window_long : (s : tie.Start) → length (state s).window ≡ frame_most
-window_long s = s.pre.1.0.0
+window-long : (s : tie.Start) → length (state s).window ≡ frame_most
+window-long s = s.pre.1.0.0
 
-carry_long : (s : tie.Start) → length (state s).carry ≡ frame_most
-carry_long s = s.pre.1.0.1
+carry-long : (s : tie.Start) → length (state s).carry ≡ frame_most
+carry-long s = s.pre.1.0.1
 
 warmup-long : (s : tie.Start) → length (state s).warmup ≡ warmup_most
 warmup-long s = s.pre.1.0.2
@@ -78,13 +78,13 @@ used-up : (m : tie.After-measure) → let s = m.before.before.before.before.befo
 used-up m =
     let g = m.before.before.before.before.before.before.before.before in
     let s = g.before.before.before.before.before.before.before.before.before.before in
-    consumed_few s.args.finish (state s) (sound s) s.args.samples.now s.pre.1.1.0 (window_long s) (carry_long s) s.args.values.now g.gather.last.1.1.1.1.1.0 s.pre.1.0.3 (values-are g) m.measure.result.consumed (consumed_is m)
+    consumed_few s.args.finish (state s) (sound s) s.args.samples.now s.pre.1.1.0 (window-long s) (carry-long s) s.args.values.now g.gather.last.1.1.1.1.1.0 s.pre.1.0.3 (values-are g) m.measure.result.consumed (consumed_is m)
 
 counted : (m : tie.After-measure) → m.measure.result.frames ≤ energies_most
 counted m =
     let g = m.before.before.before.before.before.before.before.before in
     let s = g.before.before.before.before.before.before.before.before.before.before in
-    frames_fit s.args.finish (state s) (sound s) s.args.samples.now s.pre.1.1.0 (window_long s) (carry_long s) s.args.values.now g.gather.last.1.1.1.1.1.0 s.pre.1.0.3 (values-are g) m.measure.result.consumed (consumed_is m) s.args.energies.now m.measure.last.1.1.1.1.1.1.1.0 s.pre.1.0.4 (energies-are m) m.measure.result.frames (frames-are m)
+    frames_fit s.args.finish (state s) (sound s) s.args.samples.now s.pre.1.1.0 (window-long s) (carry-long s) s.args.values.now g.gather.last.1.1.1.1.1.0 s.pre.1.0.3 (values-are g) m.measure.result.consumed (consumed_is m) s.args.energies.now m.measure.last.1.1.1.1.1.1.1.0 s.pre.1.0.4 (energies-are m) m.measure.result.frames (frames-are m)
 
 coefficient-requires : tie.Need-coefficient-requires
 coefficient-requires c κs = search rules
@@ -192,7 +192,7 @@ returns c =
     let s = g.before.before.before.before.before.before.before.before.before.before in
     let d = state s in
     let j = c.before.before.before.before.hold-or-judge in
-    heard_is s.args.finish d (sound s) s.args.samples.now s.pre.1.1.0 (window_long s) (carry_long s) s.args.values.now g.gather.last.1.1.1.1.1.0 s.pre.1.0.3 (values-are g) m.measure.result (consumed_is m) s.args.energies.now m.measure.last.1.1.1.1.1.1.1.0 s.pre.1.0.4 (energies-are m) (frames-are m) g.gather.result g.gather.ensures.0 j.result
+    heard_is s.args.finish d (sound s) s.args.samples.now s.pre.1.1.0 (window-long s) (carry-long s) s.args.values.now g.gather.last.1.1.1.1.1.0 s.pre.1.0.3 (values-are g) m.measure.result (consumed_is m) s.args.energies.now m.measure.last.1.1.1.1.1.1.1.0 s.pre.1.0.4 (energies-are m) (frames-are m) g.gather.result g.gather.ensures.0 j.result
     j.ensures.1.0.0
     j.ensures.0.1
     j.ensures.1.0.1

@@ -1,18 +1,22 @@
-use mathlib.Core.Path.{◌≡◌, refl, sym, ◌∙◌}
+use mathlib.Core.Path.{◌≡◌, refl, sym, ap, ◌∙◌}
+use native.Mathlib.Omega.{arith}
 use lib.ListN.{length}
 use Rattle.lists.proofs.Every.{length_map}
 use Rattle.ranges.specs.Sizes.{frame_most, warmup_most}
+use Rattle.vad_state.specs.State.{state_of}
+use Rattle.vad_state.specs.State.{sound_of}
+use Rattle.vad_state.specs.declared.Kept.{Kept}
+use Rattle.vad_state.specs.declared.VadDetector.{VadDetector}
 use Rattle.vad_state.proofs.Parts.{parts, frame_high}
-use Rattle.vad_call.proofs.Calls.{hearing_fits, hearing_settled}
 use borrow.Author.Rules.{rules}
 use Rattle.vad_call.proofs.run.Statement.{statement}
 use Rattle.vad_call.proofs.run.Tie as tie
 
-window_long : (s : tie.Start) → length s.args.t1.window ≡ frame_most
-window_long s = sym (length_map _ s.args.t1.window) ∙ s.good.0.1.1.1.0.1.0.1
+window-long : (s : tie.Start) → length s.args.t1.window ≡ frame_most
+window-long s = sym (length_map _ s.args.t1.window) ∙ s.good.0.1.1.1.0.1.0.1
 
-carry_long : (s : tie.Start) → length s.args.t1.carry ≡ frame_most
-carry_long s = sym (length_map _ s.args.t1.carry) ∙ s.good.0.1.1.1.1.0.1.0.1
+carry-long : (s : tie.Start) → length s.args.t1.carry ≡ frame_most
+carry-long s = sym (length_map _ s.args.t1.carry) ∙ s.good.0.1.1.1.1.0.1.0.1
 
 warmup-long : (s : tie.Start) → length s.args.t1.warmup ≡ warmup_most
 warmup-long s = sym (length_map _ s.args.t1.warmup) ∙ s.good.0.1.1.1.1.1.0.1.0.1
@@ -26,7 +30,7 @@ slice-aggregate-hear-2 c = search rules
 hear-requires : tie.Need-hear-requires
 hear-requires c κs =
     let s = c.before.before.before.before.before.before.before.before.before.before.before.before.before in
-    (s.pre.0, ((window_long s, carry_long s, warmup-long s, refl, refl), s.pre.1))
+    (s.pre.0, ((window-long s, carry-long s, warmup-long s, refl, refl), s.pre.1))
 
 slice-aggregate-settled : tie.Need-slice-aggregate-settled
 slice-aggregate-settled c = search rules
@@ -38,9 +42,7 @@ settled-requires : tie.Need-settled-requires
 settled-requires c κs =
     let h = c.before.before.before.before.before.before.hear in
     let s = c.before.before.before.before.before.before.before.before.before.before.before.before.before.before.before.before.before.before.before.before in
-    let d = s.args.t1 in
-    let fits = hearing_fits s.args.finish d (parts d s.pre.0) s.args.samples.now s.pre.1.0 (window_long s) (carry_long s) (length s.args.rows.now) h.result h.ensures.0 in
-    ((frame_high d (parts d s.pre.0), h.kept.1.1.1.1.1.1.0, h.kept.1.1.1.1.1.1.1.0), fits)
+    ((frame_high s.args.t1 (parts s.args.t1 s.pre.0), h.kept.1.1.1.1.1.1.0, h.kept.1.1.1.1.1.1.1.0), h.ensures.1.1.0)
 
 same_length : tie.Need-same-length
 same_length c = search rules
@@ -48,10 +50,7 @@ same_length c = search rules
 returns : tie.Need-returns
 returns c =
     let h = c.before.before.before.before.before.before.before.hear in
-    let s = c.before.before.before.before.before.before.before.before.before.before.before.before.before.before.before.before.before.before.before.before.before in
-    let d = s.args.t1 in
-    let same = hearing_settled s.args.finish d (parts d s.pre.0) s.args.samples.now s.pre.1.0 (window_long s) (carry_long s) (length s.args.rows.now) h.result h.ensures.0 _ _ refl refl h.last.1.1.1.1.1.1.0 h.last.1.1.1.1.1.1.1.0 h.ensures.1.0 h.ensures.1.1.0 in
-    (c.settled.ensures ∙ same, h.ensures.1.1.1)
+    (c.settled.ensures ∙ sym h.ensures.0, h.ensures.1.1.1)
 
 pub run_spec : {M : Type 1} → statement M
 run_spec =

@@ -3,7 +3,7 @@ use mathlib.Core.Bool.{true}
 use native.Mathlib.Omega.{arith}
 use borrow.Author.Tests.{not-true, not-false}
 use Rattle.vad_memory.specs.DetectorState.{readable}
-use Rattle.vad_door.proofs.Door.{hear_unread, check_passed, hear_stopped, hear_ran}
+use Rattle.vad_door.proofs.Door.{readable_room, hear_unread, check_carries, check_passed, hear_stopped, hear_ran}
 use borrow.Author.Rules.{rules}
 use Rattle.vad_door.proofs.call.Statement.{statement}
 use Rattle.vad_door.proofs.call.Tie as tie
@@ -30,10 +30,16 @@ kept-at-requires : tie.Need-kept-at-requires
 kept-at-requires c κs = good c.before.before
 
 check-at-requires : tie.Need-check-at-requires
-check-at-requires c κs = search rules
+check-at-requires c κs = readable_room _ _ (good c.before.before.before.before)
 
 answer-requires : tie.Need-answer-requires
-answer-requires c κs = search rules
+answer-requires c κs =
+    let block = c.before.before.check-at in
+    let kept = c.before.before.before.before.kept_at in
+    let k = c.before.before.before.before.before.before.before in
+    let s = k.before.before.before.before.before.before.before.before.args in
+    let small = check_carries s.numbers.now s.floats.now s.finish s.samples.now s.rows.now (good k) kept.result kept.ensures block.result block.ensures in
+    omega arith
 
 same-length-3 : tie.Need-same-length-3
 same-length-3 c = search rules

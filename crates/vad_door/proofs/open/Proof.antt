@@ -3,9 +3,7 @@ use mathlib.Core.Bool.{true}
 use native.Mathlib.Omega.{arith}
 use borrow.Author.Tests.{not-true, not-false}
 use Rattle.vad_memory.specs.DetectorState.{long_enough}
-use Rattle.float.proofs.Words.{T_of}
-use Rattle.vad_detector.specs.Opening.{Handed}
-use Rattle.vad_door.proofs.Door.{open_short, open_put, opens}
+use Rattle.vad_door.proofs.Door.{open_short, open_put}
 use borrow.Author.Rules.{rules}
 use Rattle.vad_door.proofs.open.Statement.{statement}
 use Rattle.vad_door.proofs.open.Tie as tie
@@ -19,19 +17,10 @@ same_length c = search rules
 same-length-2 : tie.Need-same-length-2
 same-length-2 c = search rules
 
--- the settings and the rise weight are f32: a fact of their types
-f32-handed : (s : tie.Start) → Handed s.args.config s.args.speech-floor-rise
-f32-handed s = record {
-  floor_fits = T_of s.well-formed.0.1.1.1.1.1.1.1.1.1.1.1.0.1;
-  smoothing_fits = T_of s.well-formed.0.1.1.1.1.1.1.1.1.1.1.0.1;
-  rise_fits = T_of s.well-formed.1.1.0.1;
-}
-
 returns : tie.Need-returns
 returns c =
     let s = c.before.before.before.before.before.before.before.args in
-    opens s.config s.window.now s.speech-floor-rise s.numbers.now s.floats.now (f32-handed c.before.before.before.before.before.before.before)
-    (open_short s.config s.window.now s.speech-floor-rise s.numbers.now s.floats.now (sym c.before.long-enough.ensures ∙ not-true _ c.if1.true) _ (omega arith))
+    open_short s.config s.window.now s.speech-floor-rise s.numbers.now s.floats.now (sym c.before.long-enough.ensures ∙ not-true _ c.if1.true) _ (omega arith)
 
 long : (k : tie.Else1) → let s = k.before.before.before.before.before.before.before.args in long_enough s.numbers.now s.floats.now ≡ true
 long k = sym k.before.long-enough.ensures ∙ not-false _ k.if1.false
@@ -54,8 +43,7 @@ returns-2 c =
     let new = c.before.before.before.before.before.«open» in
     let k = c.before.before.before.before.before.before.before.before in
     let s = k.before.before.before.before.before.before.before.args in
-    opens s.config s.window.now s.speech-floor-rise s.numbers.now s.floats.now (f32-handed k.before.before.before.before.before.before.before)
-    (open_put s.config s.window.now s.speech-floor-rise s.numbers.now s.floats.now (long k) new.result new.ensures put.result put.ensures.0 put.new.0 put.ensures.1.0 put.new.1.0 put.ensures.1.1)
+    open_put s.config s.window.now s.speech-floor-rise s.numbers.now s.floats.now (long k) new.result new.ensures put.result put.ensures.0 put.new.0 put.ensures.1.0 put.new.1.0 put.ensures.1.1
 
 pub open_spec : {M : Type 1} → statement M
 open_spec =

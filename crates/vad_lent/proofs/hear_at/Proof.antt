@@ -1,11 +1,11 @@
-use mathlib.Core.Path.{◌≡◌, refl, ap, ◌∙◌}
+use mathlib.Core.Path.{◌≡◌, refl, ap, subst, ◌∙◌}
 use lib.ListN.{length}
 use Rattle.vad_state.specs.State.{state_of, sound_of}
 use Rattle.vad_state.specs.declared.VadDetector.{VadDetector}
 use Rattle.vad_state.proofs.Parts.{parts, frame_high}
-use Rattle.vad_call.specs.Calls.{written_of}
+use Rattle.vad_call.specs.Calls.{ran_of, written_of, settled_of}
 use Rattle.vad_lent.specs.Lent.{state_at}
-use Rattle.vad_lent.proofs.Laws.{parts_long, state_lent, lent_heard, lent_fits, ran_arrays}
+use Rattle.vad_lent.proofs.Laws.{parts_long, state_lent, ran_refusal, ran_tally, ran_arrays}
 use borrow.Author.Rules.{rules}
 use Rattle.vad_lent.proofs.hear_at.Statement.{statement}
 use Rattle.vad_lent.proofs.hear_at.Tie as tie
@@ -55,11 +55,8 @@ settle-at-requires : tie.Need-settle-at-requires
 unfolding state_at
 settle-at-requires c κs =
     let h = c.before.before.before.before.before.before.before.hear in
-    let w = c.before.before.before.before.before.before.before.before.before.before.before in
-    let s = w.before.before.before.before.before.before.before in
-    let d = state_at s.args.kept s.args.floats.now in
-    let fits = lent_fits s.args.finish s.args.kept s.args.floats.now s.requires.0 s.requires.1.0 s.args.samples.now s.requires.1.1 (length s.args.rows.now) (state w) (same w) h.result h.ensures.0 in
-    ((s.requires.1.0, frame_high d (parts d s.requires.0), h.auto.1.1.1.1.1.1.0, h.auto.1.1.1.1.1.1.1.0), fits)
+    let s = c.before.before.before.before.before.before.before.before.before.before.before.before.before.before.before.before.before.before in
+    ((s.requires.1.0, frame_high (state_at s.args.kept s.args.floats.now) (parts (state_at s.args.kept s.args.floats.now) s.requires.0), h.auto.1.1.1.1.1.1.0, h.auto.1.1.1.1.1.1.1.0), h.ensures.1.1.0)
 
 same_length : tie.Need-same-length
 same_length c = search rules
@@ -71,18 +68,16 @@ returns : tie.Need-returns
 returns c =
     let h = c.before.before.before.before.before.before.before.before.before.before.hear in
     let w = c.before.before.before.before.before.before.before.before.before.before.before.before.before.before in
-    let s = w.before.before.before.before.before.before.before in
-    let a = s.args in
-    let fs = a.floats.now in
-    let xs = a.samples.now in
-    let room = length a.rows.now in
+    let s = w.before.before.before.before.before.before.before.args in
+    let fs = s.floats.now in
+    let xs = s.samples.now in
+    let room = length s.rows.now in
     let values = h.new.1.1.1.1.1.1.0 in
-    let energies = h.new.1.1.1.1.1.1.1.0 in (
-      lent_heard a.finish a.kept fs s.requires.0 s.requires.1.0 xs s.requires.1.1 room (state w) (same w) h.result h.ensures.0,
-      (
-        ran_arrays a.finish a.kept fs s.requires.0 s.requires.1.0 xs s.requires.1.1 room (state w) (same w) h.result h.ensures.0 _ _ refl refl values energies h.ensures.1.0 h.ensures.1.1.0 _ c.before.before.settle-at.ensures,
-        h.ensures.1.1.1 ∙ ap (λ (d : VadDetector). written_of a.finish d xs a.rows.now) (same w),
-      ),
+    let energies = h.new.1.1.1.1.1.1.1.0 in
+    let ran = ran_of s.finish (state_at s.kept fs) xs room in
+    let ends : ran ≡ settled_of h.result values energies (state_at s.kept fs) = subst (λ (d : VadDetector). ran_of s.finish d xs room ≡ settled_of h.result values energies d) (same w) h.ensures.0 in (
+      (ran_refusal s.kept fs h.result values energies ran ends, ran_tally s.kept fs h.result values energies ran ends, h.ensures.1.0.0 ∙ ap (λ (d : VadDetector). (ran_of s.finish d xs room).detector.kept) (same w)),
+      (ran_arrays s.kept fs h.result values energies ran ends _ c.before.before.settle-at.ensures, h.ensures.1.1.1 ∙ ap (λ (d : VadDetector). written_of s.finish d xs s.rows.now) (same w)),
     )
 
 pub hear-at-spec : {M : Type 1} → statement M

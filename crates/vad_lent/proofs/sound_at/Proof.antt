@@ -1,49 +1,33 @@
-use mathlib.Core.Path.{◌≡◌, sym, ap, ◌∙◌}
-use Prim.Native.Nat.{◌≤◌, ◌<◌}
-use native.Mathlib.Omega.{arith}
+use mathlib.Core.Path.{sym, ap, ◌∙◌}
 use lib.ListN.{length}
-use Rattle.vad_layout.proofs.InFloats as in-floats
 use Rattle.vad_state.specs.State.{sound_of}
-use Rattle.vad_lent.proofs.Laws.{parts_long, state_lent, sound_short, sound_long}
+use Rattle.vad_lent.proofs.Laws.{parts_long, state_lent}
 use borrow.Author.Rules.{rules}
 use Rattle.vad_lent.proofs.sound_at.Statement.{statement}
 use Rattle.vad_lent.proofs.sound_at.Tie as tie
 
-returns : tie.Need-returns
-returns c =
-    let s = c.before.before.args in
-    let short : length s.floats.now < in-floats.singles = omega (arith, c.if1.true) in
-    sound_short s.kept s.floats.now short
-
--- from here on the arrays are there
-long : (k : tie.Else1) → in-floats.singles ≤ length k.before.before.args.floats.now
-long k = omega (arith, k.if1.false)
-
 window-in-requires : tie.Need-window-in-requires
-window-in-requires c κs = long c
+window-in-requires c κs = search rules
 
 carry-in-requires : tie.Need-carry-in-requires
-carry-in-requires c κs = long c.before
+carry-in-requires c κs = search rules
 
 warmup-in-requires : tie.Need-warmup-in-requires
-warmup-in-requires c κs = long c.before.before
+warmup-in-requires c κs = search rules
 
 sound-lent-requires : tie.Need-sound-lent-requires
 sound-lent-requires c κs =
-    let k = c.before.before.before in
-    let wide = parts_long k.before.before.args.floats.now (long k) in
-    (ap length c.before.before.window-in.ensures ∙ wide.0, ap length c.before.carry-in.ensures ∙ wide.1, ap length c.warmup-in.ensures ∙ wide.2)
+    let s = c.before.before.before.before in
+    let long = parts_long s.args.floats.now s.requires in
+    (ap length c.before.before.window-in.ensures ∙ long.0, ap length c.before.carry-in.ensures ∙ long.1, ap length c.warmup-in.ensures ∙ long.2)
 
-returns-2 : tie.Need-returns-2
-returns-2 c =
-    let k = c.before.before.before.before in
-    let s = k.before.before.args in
+returns : tie.Need-returns
+returns c =
+    let s = c.before.before.before.before.before.args in
     let window = c.before.before.before.window-in in
     let carry = c.before.before.carry-in in
     let warmup = c.before.warmup-in in
-    c.sound-lent.ensures
-    ∙ ap sound_of (state_lent s.kept s.floats.now window.result.now carry.result.now warmup.result.now window.ensures carry.ensures warmup.ensures)
-    ∙ sym (sound_long s.kept s.floats.now (long k))
+    c.sound-lent.ensures ∙ ap sound_of (state_lent s.kept s.floats.now window.result.now carry.result.now warmup.result.now window.ensures carry.ensures warmup.ensures)
 
 pub sound-at-spec : {M : Type 1} → statement M
-sound-at-spec = tie.close (tie.spec returns window-in-requires carry-in-requires warmup-in-requires sound-lent-requires returns-2)
+sound-at-spec = tie.close (tie.spec window-in-requires carry-in-requires warmup-in-requires sound-lent-requires returns)

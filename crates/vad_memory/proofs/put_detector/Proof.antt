@@ -16,11 +16,11 @@ use Rattle.vad_memory.proofs.put_detector.Tie as tie
 told : (s : tie.Start) → Long s.args.numbers.now s.args.floats.now
 told s = long_parts s.args.numbers.now s.args.floats.now s.pre
 
-window_long : (s : tie.Start) → length s.args.detector.window ≡ frame_most
-window_long s = sym (length_map _ s.args.detector.window) ∙ s.good.1.1.0.1.1.1.0.1.0.1
+window-long : (s : tie.Start) → length s.args.detector.window ≡ frame_most
+window-long s = sym (length_map _ s.args.detector.window) ∙ s.good.1.1.0.1.1.1.0.1.0.1
 
-carry_long : (s : tie.Start) → length s.args.detector.carry ≡ frame_most
-carry_long s = sym (length_map _ s.args.detector.carry) ∙ s.good.1.1.0.1.1.1.1.0.1.0.1
+carry-long : (s : tie.Start) → length s.args.detector.carry ≡ frame_most
+carry-long s = sym (length_map _ s.args.detector.carry) ∙ s.good.1.1.0.1.1.1.1.0.1.0.1
 
 warmup-long : (s : tie.Start) → length s.args.detector.warmup ≡ warmup_most
 warmup-long s = sym (length_map _ s.args.detector.warmup) ∙ s.good.1.1.0.1.1.1.1.1.0.1.0.1
@@ -46,7 +46,7 @@ returns c =
     let d = s.args.detector in
     let arrays = c.before.before.before.before.before.before.before.before.before.put-arrays in
     let put = c.before.before.before.before.put-kept.ensures in
-    (put.0, put.1 ∙ ap (λ xs. sets xs in-floats.singles (singles_of d.kept)) arrays.ensures ∙ singles_put d s.args.floats.now (window_long s) (carry_long s) (warmup-long s) (told s).floats)
+    (put.0, put.1 ∙ ap (λ xs. sets xs in-floats.singles (singles_of d.kept)) arrays.ensures ∙ singles_put d s.args.floats.now (window-long s) (carry-long s) (warmup-long s) (told s).floats)
 
 pub put-detector-spec : {M : Type 1} → statement M
 put-detector-spec = tie.close (tie.spec put-arrays-requires put-kept-requires same_length same-length-2 returns)

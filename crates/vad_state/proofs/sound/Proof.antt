@@ -6,11 +6,11 @@ use borrow.Author.Rules.{rules}
 use Rattle.vad_state.proofs.sound.Statement.{statement}
 use Rattle.vad_state.proofs.sound.Tie as tie
 
-window_long : (s : tie.Start) → length s.args.t1.window ≡ frame_most
-window_long s = sym (length_map _ s.args.t1.window) ∙ s.good.0.1.1.1.0.1.0.1
+window-long : (s : tie.Start) → length s.args.t1.window ≡ frame_most
+window-long s = sym (length_map _ s.args.t1.window) ∙ s.good.0.1.1.1.0.1.0.1
 
-carry_long : (s : tie.Start) → length s.args.t1.carry ≡ frame_most
-carry_long s = sym (length_map _ s.args.t1.carry) ∙ s.good.0.1.1.1.1.0.1.0.1
+carry-long : (s : tie.Start) → length s.args.t1.carry ≡ frame_most
+carry-long s = sym (length_map _ s.args.t1.carry) ∙ s.good.0.1.1.1.1.0.1.0.1
 
 warmup-long : (s : tie.Start) → length s.args.t1.warmup ≡ warmup_most
 warmup-long s = sym (length_map _ s.args.t1.warmup) ∙ s.good.0.1.1.1.1.1.0.1.0.1
@@ -18,7 +18,7 @@ warmup-long s = sym (length_map _ s.args.t1.warmup) ∙ s.good.0.1.1.1.1.1.0.1.0
 sound-lent-requires : tie.Need-sound-lent-requires
 sound-lent-requires c κs =
     let s = c.before.before.before.before.before.before.before.before in
-    (window_long s, carry_long s, warmup-long s)
+    (window-long s, carry-long s, warmup-long s)
 
 returns : tie.Need-returns
 returns c = c.sound-lent.ensures

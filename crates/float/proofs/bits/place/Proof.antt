@@ -1,7 +1,7 @@
 use Rattle.std.proofs.Common.{◌≡◌, ℕ, zero, suc, ◌-◌, sym, refl, ap, ◌∙◌, subst, rules}
 use Rattle.float.proofs.bits.place.Statement.{statement}
 use Rattle.float.proofs.bits.place.Tie as tie
-use Rattle.float.specs.Fields.{field_of, place_at}
+use Rattle.float.specs.Inside.{field_of, place_at}
 
 low : (x : ℕ) → x ≡ 0 → 1 ≡ place_at x
 low x e = subst (λ (z : ℕ). 1 ≡ place_at z) (sym e) refl

@@ -1,5 +1,5 @@
 use Rattle.std.proofs.Common.{◌≡◌, ℕ, zero, suc, ◌+◌, ◌%◌, sym, refl, ◌∙◌, subst, rules}
-use Rattle.float.specs.Fields.{field_of, significand_at}
+use Rattle.float.specs.Inside.{field_of, significand_at}
 use Rattle.float.proofs.bits.significand.Statement.{statement}
 use Rattle.float.proofs.bits.significand.Tie as tie
 use Rattle.float.proofs.bits.significand.Reads as reads

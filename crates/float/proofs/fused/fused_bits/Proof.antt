@@ -3,8 +3,7 @@ use mathlib.Core.Bool.{beq}
 use lib.IntN.{sub_ℕ}
 use lib.Signed.{mag}
 use lib.Ieee.{binary32, unlike, sum}
-use Rattle.float.specs.Inside.{fused_bits_of}
-use Rattle.float.specs.Fields.{sign_of, M, Q}
+use Rattle.float.specs.Inside.{sign_of, fused_bits_of, M, Q}
 use Rattle.float.specs.Finite.{rounded}
 use Rattle.float.proofs.Places.{held, at_place, at_place_small}
 use Rattle.float.proofs.Decode.{significand_lt, place_lt}

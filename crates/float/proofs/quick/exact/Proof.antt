@@ -1,5 +1,5 @@
 use Rattle.std.proofs.Common.{◌≡◌, ℕ, ◌+◌, ◌%◌, ◌<◌, Bool, ◌&&◌, ◌||◌, eqb, leb, sym, ap, ◌∙◌, subst, ap₂, rules}
-use Rattle.float.specs.Fields.{Q}
+use Rattle.float.specs.Inside.{Q}
 use Rattle.float.specs.Settled.{exact_of}
 use Rattle.float.proofs.Decode.{place_lt}
 use Rattle.float.proofs.quick.exact.Statement.{statement}

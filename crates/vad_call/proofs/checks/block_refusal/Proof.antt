@@ -44,15 +44,19 @@ returns-2 c =
     let bad : clean_of xs < length xs = (let t = c.if2.taken in omega arith) in
     simp (short k, lt-ltb (clean_of xs) (length xs) bad, e)
 
-sub-if3 : tie.Need-sub-if3
-sub-if3 c = let few = c.before.before.if1.left in search rules
+add-if3 : tie.Need-add-if3
+add-if3 c =
+    let k = c.before.before in
+    let few = k.if1.left in
+    let so_far = k.before.before.pre in
+    record { fits = omega (arith, few, so_far) }
 
 returns-3 : tie.Need-returns-3
 unfolding first_of received_in
 returns-3 c =
     let k = c.before in
     let s = k.before.before.before.before.args in
-    let past : received_most < s.received + length s.samples.now = (let few = k.before.before.if1.left in omega (arith, c.if3.taken)) in
+    let past : received_most < s.received + length s.samples.now = omega (arith, c.if3.taken) in
     simp (short k.before.before, clean k, lt-leb (s.received + length s.samples.now) received_most past)
 
 returns-4 : tie.Need-returns-4
@@ -60,8 +64,8 @@ unfolding first_of received_in
 returns-4 c =
     let k = c.before in
     let s = k.before.before.before.before.args in
-    let within : s.received + length s.samples.now ≤ received_most = (let few = k.before.before.if1.left in omega (arith, c.if3.left)) in
+    let within : s.received + length s.samples.now ≤ received_most = omega (arith, c.if3.left) in
     simp (short k.before.before, clean k, le-leb (s.received + length s.samples.now) received_most within)
 
 pub block-refusal-spec : {M : Type 1} → statement M
-block-refusal-spec = tie.close (tie.spec returns clean-requires returns-2 sub-if3 returns-3 returns-4)
+block-refusal-spec = tie.close (tie.spec returns clean-requires returns-2 add-if3 returns-3 returns-4)

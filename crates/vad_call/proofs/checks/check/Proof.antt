@@ -1,9 +1,11 @@
 use mathlib.Core.Path.{◌≡◌, sym, ◌∙◌}
 use mathlib.Core.Bool.{true}
+use native.Mathlib.Omega.{arith}
 use borrow.Author.Tests.{not-true, not-false}
 use Rattle.refusals.specs.Refusals.{first_of}
 use Rattle.vad_state.specs.State.{state_of, sound_of}
 use Rattle.vad_state.specs.declared.VadDetector.{VadDetector}
+use Rattle.vad_state.proofs.Parts.{parts}
 use Rattle.vad_call.specs.Checks.{check_of}
 use borrow.Author.Rules.{rules}
 use Rattle.vad_call.proofs.checks.check.Statement.{statement}
@@ -24,7 +26,7 @@ unfolding check_of first_of
 returns c = simp (sym c.before.sound-lent.ensures ∙ not-true _ c.if1.true)
 
 block-refusal-requires : tie.Need-block-refusal-requires
-block-refusal-requires c κs = search rules
+block-refusal-requires c κs = let p = parts _ (sound c) in omega arith
 
 returns-2 : tie.Need-returns-2
 unfolding check_of first_of

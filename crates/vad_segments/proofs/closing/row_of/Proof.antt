@@ -20,7 +20,7 @@ cast-t9 c = search rules
 
 returns : tie.Need-returns
 unfolding row_of
-returns c = simp (c.to-bits.ensures, c.before.mean-energy.ensures, c.before.before.time-at2.ensures, c.before.before.before.time_at_lem.ensures)
+returns c = simp (c.to-bits.ensures, c.before.mean-energy.ensures, c.before.before.time-at2.ensures, c.before.before.before.time-at.ensures)
 
 pub row-of-spec : {M : Type 1} → statement M
 row-of-spec =

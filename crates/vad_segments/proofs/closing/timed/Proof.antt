@@ -17,7 +17,7 @@ dropped-requires c κs = search rules
 returns : tie.Need-returns
 returns c =
     let s = c.before.before.before.before.args in
-    let a = c.before.before.before.time_at_lem in
+    let a = c.before.before.before.time-at in
     let b = c.before.before.time-at2 in
     c.dropped.ensures ∙ timed_dropped s.config s.limit s.prev-end s.start s.end s.segment a.result b.result a.ensures b.ensures (omega arith)
 
@@ -27,7 +27,7 @@ row-of-requires c κs = search rules
 returns-2 : tie.Need-returns-2
 returns-2 c =
     let s = c.before.before.before.before.args in
-    let a = c.before.before.before.time_at_lem in
+    let a = c.before.before.before.time-at in
     let b = c.before.before.time-at2 in
     timed_row s.config s.limit s.prev-end s.start s.end s.segment a.result b.result a.ensures b.ensures (omega arith) c.row_of.result c.row_of.ensures
 

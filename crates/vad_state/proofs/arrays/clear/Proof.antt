@@ -11,7 +11,7 @@ use Rattle.vad_state.proofs.arrays.clear.Statement.{statement}
 use Rattle.vad_state.proofs.arrays.clear.Tie as tie
 
 abbrev invariant-loop : tie.invariant-loop
-invariant-loop to₀ from i₀ to i = (length to ≡ length to₀) × (sets to i (replicate (length to₀ - i) zero32) ≡ sets to₀ from (replicate (length to₀ - from) zero32))
+invariant-loop to₀ from i₀ to i = (i ≤ length to₀) × (length to ≡ length to₀) × (sets to i (replicate (length to₀ - i) zero32) ≡ sets to₀ from (replicate (length to₀ - from) zero32))
 
 abbrev decreases-loop : tie.decreases-loop
 decreases-loop to₀ from i₀ to i = length to₀ - i
@@ -39,7 +39,7 @@ loop-again c =
     let n = length l.before.args.to.now in
     let inside : i < n = omega arith in
     let long : length (set to i zero32) ≡ length to = simp length-set in
-    (long ∙ l.loop.invariant.0, clear_step to i n zero32 inside ∙ l.loop.invariant.1)
+    (omega arith, long ∙ l.loop.invariant.1, clear_step to i n zero32 inside ∙ l.loop.invariant.2)
 
 same_length : tie.Need-same-length invariant-loop decreases-loop
 same_length c = search rules
@@ -50,7 +50,7 @@ returns c =
     let s = l.before in
     let n = length s.args.to.now in
     let over : n ≤ l.loop.i = omega arith in
-    sym (clear_end l.loop.to l.loop.i n zero32 over) ∙ l.loop.invariant.1 ∙ cleared s.args.to.now s.args.from
+    sym (clear_end l.loop.to l.loop.i n zero32 over) ∙ l.loop.invariant.2 ∙ cleared s.args.to.now s.args.from s.requires
 
 pub clear_spec : {M : Type 1} → statement M
 clear_spec =
