@@ -1,5 +1,8 @@
 // The filter's door. The host keeps the state as words, 25 of them, whose layout specs/FilterState.antt says; every input is answered.
 // The crate fallowcart exports the four entry points, since only a library's own functions get a C name.
+
+#![tactic(auto)]
+
 ghost use Rattle.std.specs.Prelude.{◌≡◌, cond, eqb, ◌+◌, ◌≤◌, ◌<◌, ◌^◌, length, map};
 ghost use Rattle.std.proofs.lemmas.List.Edits.{sets};
 ghost use Rattle.refusals.specs.Answers.{packed};

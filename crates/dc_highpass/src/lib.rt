@@ -1,4 +1,7 @@
 // DC offset removal and a Butterworth high-pass: the Rust's src/preprocessing/dc_highpass.rs. The state is passed in and returned, the output is lent.
+
+#![tactic(auto)]
+
 ghost use Rattle.std.specs.Prelude.{◌≡◌, ◌-◌, ◌≤◌, length, replicate};
 ghost use Rattle.std.proofs.lemmas.List.Edits.{sets};
 ghost use Rattle.std.specs.Float.Ieee.{neg};
@@ -16,7 +19,7 @@ use ranges::BLOCK_MOST;
 use refusals::Refusal;
 
 // What is known of a block: the Rust's `Option<VadContext>`.
-#[derive(Drop)]
+#[derive(Clone, Copy)]
 pub enum VadContext {
     Unlabelled,
     Silence,
@@ -24,35 +27,35 @@ pub enum VadContext {
 }
 
 // What opening and reset answer: 0 or the refusal's number, and the state.
-#[derive(Drop)]
+#[derive(Clone, Copy)]
 pub struct Opened {
     pub refusal: u32,
     pub filter: DcHighPassFilter,
 }
 
 // What a block's call answers: the state is a new one only where nothing was refused.
-#[derive(Drop)]
+#[derive(Clone, Copy)]
 pub struct Processed {
     pub refusal: Refusal,
     pub filter: DcHighPassFilter,
 }
 
 // A number read from a state, with 0 or the refusal's number.
-#[derive(Drop)]
+#[derive(Clone, Copy)]
 pub struct Reading {
     pub refusal: u32,
     pub value: f32,
 }
 
 // The filter after one sample, and the sample's result, which need not be finite.
-#[derive(Drop)]
+#[derive(Clone, Copy)]
 pub struct Passed {
     pub filter: DcHighPassFilter,
     pub output: f32,
 }
 
 // A stage after one sample, and its output.
-#[derive(Drop)]
+#[derive(Clone, Copy)]
 struct Moved {
     pub stage: Biquad,
     pub output: f32,

@@ -4,7 +4,7 @@ ghost use Rattle.float.specs.Fused.{fused_of};
 ghost use Rattle.dc_state.specs.Biquad.{or_nan, output_of, next_of};
 
 // Normalized so that a0 = 1.
-#[derive(Drop)]
+#[derive(Clone, Copy)]
 pub struct BiquadCoefficients {
     pub b0: f32,
     pub b1: f32,
@@ -14,7 +14,7 @@ pub struct BiquadCoefficients {
 }
 
 // The last two inputs and the last two outputs.
-#[derive(Drop)]
+#[derive(Clone, Copy)]
 pub struct BiquadState {
     pub x1: f32,
     pub x2: f32,
@@ -22,13 +22,13 @@ pub struct BiquadState {
     pub y2: f32,
 }
 
-#[derive(Drop)]
+#[derive(Clone, Copy)]
 pub struct Biquad {
     pub coeffs: BiquadCoefficients,
     pub state: BiquadState,
 }
 
-#[derive(Drop)]
+#[derive(Clone, Copy)]
 pub struct Stepped {
     pub state: BiquadState,
     pub output: f32,

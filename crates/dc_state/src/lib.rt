@@ -1,17 +1,20 @@
 // The filter's settings and state, and which of them are taken: refusals 20 to 24 and 27. The entry points are in dc_highpass.
+
+#![tactic(auto)]
+
 pub mod biquad;
 pub mod settings;
 
 use biquad::Biquad;
 
 // One stage, or two.
-#[derive(Drop)]
+#[derive(Clone, Copy)]
 pub enum HighpassOrder {
     SecondOrder,
     FourthOrder,
 }
 
-#[derive(Drop)]
+#[derive(Clone, Copy)]
 pub struct PreprocessingConfig {
     pub highpass_cutoff_hz: f32,
     pub sample_rate_hz: u32,
@@ -21,7 +24,7 @@ pub struct PreprocessingConfig {
     pub highpass_order: HighpassOrder,
 }
 
-#[derive(Drop)]
+#[derive(Clone, Copy)]
 pub struct DcHighPassFilter {
     pub config: PreprocessingConfig,
     pub first: Biquad,

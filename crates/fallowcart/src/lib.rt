@@ -1,4 +1,7 @@
 // The door for C and Rust: the detector, the filter, the detector's settings, and the arithmetic and the score, so that tests can compare what was compiled.
+
+#![tactic(auto)]
+
 mod config;
 mod detector;
 mod filter;

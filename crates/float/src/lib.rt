@@ -1,5 +1,8 @@
 // Rust's exactly rounded `mul_add` and `sqrt` of f32 (document 01, 'Float helpers'), worked out in whole numbers from the bits; `mul_add` by the processor's f64
 // first, which settles nearly every result, and the root from a guess in f64 that is tested. And the roundings to whole numbers that settings and rows need.
+
+#![tactic(auto)]
+
 mod bits;
 mod fused;
 mod narrow;
@@ -16,7 +19,7 @@ ghost use Rattle.float.specs.Fused.{fused_of};
 ghost use Rattle.float.specs.Root.{root_of};
 
 // A finite number, or the word that there is none.
-#[derive(Drop)]
+#[derive(Clone, Copy)]
 pub enum Rounded {
     Finite(f32),
     Nothing,

@@ -10,7 +10,7 @@ use super::Rounded;
 use super::bits::place;
 
 // The f32, which is the fused sum only where it is settled.
-#[derive(Drop)]
+#[derive(Clone, Copy)]
 pub struct Quick {
     pub sum: f32,
     pub settled: bool,

@@ -1,5 +1,8 @@
 // What several crates say of lists and of flags that are kept as words, in specs/, the laws that their proofs use, in proofs/, and the loop by which
 // rows and a state's numbers go into a lent slice.
+
+#![tactic(auto)]
+
 ghost use Rattle.std.specs.Prelude.{◌≡◌, ◌+◌, ◌≤◌, length};
 ghost use Rattle.std.proofs.lemmas.List.Edits.{sets};
 

@@ -1,4 +1,7 @@
 // The domain: ranges of floats, one number and a slice up to the first number outside; which rates are in it; and how much there can be at most.
+
+#![tactic(auto)]
+
 ghost use Rattle.std.specs.Prelude.{◌≡◌};
 ghost use Rattle.ranges.specs.Ranges.{within, leading_of, all_within, clean_of, rate_in};
 

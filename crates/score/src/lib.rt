@@ -1,5 +1,8 @@
 // The score of a ratio: how far a loud frame stands above the noise floor, in 1,024ths of a power of ten (document 01, 'Score').
 // It stands in for the original's `ratio.log10().clamp(0.0, 1.0)`, whose precision Rust leaves open.
+
+#![tactic(auto)]
+
 mod thresholds;
 
 ghost use Rattle.std.specs.Prelude.{◌≡◌, ◌≤◌};

@@ -1,5 +1,8 @@
 // Replays a list of answers without Rust at hand: standard input is a run of f32 ratios, little-endian, and each is printed as its bits with
 // its score. tools/score_table.py makes the list and, by exact whole numbers, what must be printed.
+
+#![tactic(auto)]
+
 ghost use Rattle.std.specs.Prelude.{◌<◌};
 
 use libc::{STDIN_FILENO, STDOUT_FILENO};

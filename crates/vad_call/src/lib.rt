@@ -1,4 +1,7 @@
 // One call: the Rust's `run`, which detect and flush share.
+
+#![tactic(auto)]
+
 pub mod checks;
 
 ghost use Rattle.std.specs.Prelude.{◌≡◌, true, cond, ◌+◌, ◌≤◌, ◌^◌, [], ◌++◌, length, take};
@@ -21,7 +24,7 @@ use vad_state::arrays::{clear_past, fill, fill_warmup, put_first};
 use vad_state::{Desk, Kept, Stream, VadDetector};
 
 // What a call counted: frames judged, the loud and the quiet among them, and rows written; and the floor after it.
-#[derive(Drop)]
+#[derive(Clone, Copy)]
 pub struct Tally {
     pub frames: usize,
     pub loud: usize,
@@ -31,7 +34,7 @@ pub struct Tally {
 }
 
 // What detect and flush answer: the state is a new one, and the tally filled, only where nothing was refused.
-#[derive(Drop)]
+#[derive(Clone, Copy)]
 pub struct Detected {
     pub refusal: Refusal,
     pub detector: VadDetector,
@@ -39,7 +42,7 @@ pub struct Detected {
 }
 
 // What a call heard: 0 or 18, where the new carry starts among the values, and the state's numbers and the tally after it.
-#[derive(Drop)]
+#[derive(Clone, Copy)]
 pub struct Heard {
     pub refusal: Refusal,
     pub consumed: usize,
@@ -225,7 +228,7 @@ pub fn refused(number: u32, carries: usize, detector: VadDetector) -> Detected
 }
 
 // What the frames come to: whether they are held, and the rows that they need; 18 is known before a row is written.
-#[derive(Drop)]
+#[derive(Clone, Copy)]
 pub struct Outcome {
     pub refused: bool,
     pub holds: bool,

@@ -1,4 +1,7 @@
 // A call's frames in order, and their rows: the loop of `classify` of the Rust's src/vad/detector.rs around what vad_segments judges of one frame. The track is passed in and returned; rows are lent.
+
+#![tactic(auto)]
+
 ghost use Rattle.std.specs.Prelude.{◌≡◌, cond, ◌+◌, ◌≤◌, length};
 ghost use Rattle.std.proofs.lemmas.List.Edits.{sets};
 ghost use Rattle.vad_row.specs.Rows.{flat};
@@ -12,7 +15,7 @@ use vad_segments::judging::{frame_at, judge};
 use vad_segments::{Rules, Track};
 
 // The track after a call, and its frames, loud and quiet.
-#[derive(Drop)]
+#[derive(Clone, Copy)]
 pub struct Classified {
     pub track: Track,
     pub frames: usize,
@@ -21,7 +24,7 @@ pub struct Classified {
 }
 
 // The track after the frames whose rows were written, and the place after the rows.
-#[derive(Drop)]
+#[derive(Clone, Copy)]
 struct Written {
     pub track: Track,
     pub end: usize,

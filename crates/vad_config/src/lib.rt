@@ -1,4 +1,7 @@
 // The detector's settings (Rust's src/vad/config.rs): which are refused, and by what number, and the lengths and times that are worked out from them.
+
+#![tactic(auto)]
+
 mod checks;
 
 ghost use Rattle.std.specs.Prelude.{◌≡◌, max};
@@ -11,7 +14,7 @@ use ranges::{RECEIVED_MOST, rate_allowed};
 const NANOS_PER_SECOND: u64 = 1_000_000_000;
 
 // The Rust's names in its order. A duration is in nanoseconds, and an optional number is a flag and a number.
-#[derive(Drop)]
+#[derive(Clone, Copy)]
 pub struct VadConfig {
     pub sample_rate: u32,
     pub frame_duration: u64,
@@ -30,7 +33,7 @@ pub struct VadConfig {
 }
 
 // What opening works out, in frames and samples.
-#[derive(Drop)]
+#[derive(Clone, Copy)]
 pub struct Lengths {
     pub frame_length: usize,
     pub hop_length: usize,

@@ -1,4 +1,7 @@
 // The streaming voice activity detector: the Rust's src/vad/detector.rs. The state is passed in and returned, rows are lent.
+
+#![tactic(auto)]
+
 ghost use Rattle.std.specs.Prelude.{◌≡◌, true, ◌≤◌, length};
 ghost use Rattle.ranges.specs.Sizes.{frame_most};
 ghost use Rattle.vad_state.specs.State.{sound_of};
@@ -17,27 +20,27 @@ use vad_state::arrays::filled;
 use vad_state::{Desk, Kept, Stream, VadDetector, sound, weights_in};
 
 // What opening and reset answer: 0 or the refusal's number, and the state.
-#[derive(Drop)]
+#[derive(Clone, Copy)]
 pub struct Opened {
     pub refusal: u32,
     pub detector: VadDetector,
 }
 
 // A number read from a state, with 0 or the refusal's number.
-#[derive(Drop)]
+#[derive(Clone, Copy)]
 pub struct Reading {
     pub refusal: u32,
     pub value: u64,
 }
 
-#[derive(Drop)]
+#[derive(Clone, Copy)]
 pub struct FloorReading {
     pub refusal: u32,
     pub value: f32,
 }
 
 // The Rust's `Option<usize>`, with 0 or the refusal's number.
-#[derive(Drop)]
+#[derive(Clone, Copy)]
 pub struct SegmentReading {
     pub refusal: u32,
     pub is_open: bool,

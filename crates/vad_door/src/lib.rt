@@ -1,4 +1,7 @@
 // The detector's door: its entry points, which the crate fallowcart exports. The host keeps the state as numbers and floats, laid out as vad_memory says; every input is answered.
+
+#![tactic(auto)]
+
 ghost use Rattle.std.specs.Prelude.{◌≡◌, true, ◌+◌, ◌≤◌, ◌<◌, ◌^◌, length};
 ghost use Rattle.ranges.specs.Sizes.{block_most, received_most};
 ghost use Rattle.vad_state.specs.State.{sound_of};
@@ -163,7 +166,7 @@ pub fn reset(numbers: &mut [u64], floats: &mut [f32], stream_start_time: u64) ->
 }
 
 // What can be read of a state.
-#[derive(Drop)]
+#[derive(Clone, Copy)]
 pub enum Asked {
     UndecidedFrom,
     AnalyzedUntil,

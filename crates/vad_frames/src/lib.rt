@@ -1,4 +1,7 @@
 // Pre-emphasis and the energies of frames: `pre_emphasize` and `frame_signal` of the Rust's src/vad/detector.rs.
+
+#![tactic(auto)]
+
 ghost use Rattle.std.specs.Prelude.{◌≡◌, true, ◌≤◌, min, length};
 ghost use Rattle.std.proofs.lemmas.List.Edits.{sets};
 ghost use Rattle.vad_frames.specs.Emphasis.{coefficient_of, emphasized_of, emphasized, last_of};
@@ -10,7 +13,7 @@ ghost use Rattle.vad_frames.specs.Inside.{Operands, SamePast};
 use float::quick::{both, quick_sum};
 
 // How many frames a call took, and how many of its values they used up.
-#[derive(Drop)]
+#[derive(Clone, Copy)]
 pub struct Framed {
     pub frames: usize,
     pub consumed: usize,

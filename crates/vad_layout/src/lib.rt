@@ -1,4 +1,7 @@
 // Where the parts of a stored state stand, each under one name. The header and the Rust wrapper have the same names, and a test holds them together.
+
+#![tactic(auto)]
+
 pub mod in_floats;
 pub mod in_numbers;
 

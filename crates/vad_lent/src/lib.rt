@@ -1,4 +1,7 @@
 // Calls on a state whose arrays stay where the host keeps them.
+
+#![tactic(auto)]
+
 ghost use Rattle.std.specs.Prelude.{◌≡◌, true, ◌+◌, ◌≤◌, length, take, drop};
 ghost use Rattle.vad_layout.specs.Layout.{carry_first, warmup_first, singles_first};
 ghost use Rattle.ranges.specs.Sizes.{frame_most, warmup_most, block_most, received_most};

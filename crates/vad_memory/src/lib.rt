@@ -1,4 +1,7 @@
 // A detector read from the memory that the host lends, and written there.
+
+#![tactic(auto)]
+
 ghost use Rattle.std.specs.Prelude.{◌≡◌, true, ◌++◌, ◌+◌, ◌≤◌, length, take, drop};
 ghost use Rattle.std.proofs.lemmas.List.Edits.{sets};
 ghost use Rattle.vad_layout.specs.Layout.{numbers_most, floats_most, warmup_first, singles_first};
@@ -201,7 +204,7 @@ pub fn detector_at(numbers: &[u64], floats: &[f32]) -> VadDetector
 }
 
 // The open segment as it is written, zeros where none is open. A struct, since an array's numbers are each copied before they are used.
-#[derive(Drop)]
+#[derive(Clone, Copy)]
 struct Segment {
     open: u64,
     segment: ActiveSegmentState,

@@ -1,6 +1,9 @@
 // Replays a run of calls and prints what the detector answers. Standard input is a run of 32-bit words, little-endian: what `opening` takes, then for
 // each call its number and what it takes, and 0. What must be printed comes from the original (oracle/tests/replay.rs), so this shows equality
 // without Rust at hand.
+
+#![tactic(auto)]
+
 ghost use Rattle.std.specs.Prelude.{◌≤◌, ◌<◌, ◌*◌};
 ghost use Rattle.vad_row.specs.Rows.{row_width};
 

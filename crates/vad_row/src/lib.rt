@@ -1,4 +1,7 @@
 // A row, what is reported of a segment that closed: its numbers, where they are written, and what it counts as talk.
+
+#![tactic(auto)]
+
 ghost use Rattle.std.specs.Prelude.{◌≡◌, ◌+◌, ◌≤◌, length};
 ghost use Rattle.std.proofs.lemmas.List.Edits.{sets};
 ghost use Rattle.vad_row.specs.Rows.{fields_of, flat, reported, talk_in, talk_of};
@@ -9,7 +12,7 @@ use lists::put_numbers;
 pub const ROW_FIELDS: usize = 7;
 
 // `mean_energy` is the f32's bits.
-#[derive(Drop)]
+#[derive(Clone, Copy)]
 pub struct Row {
     pub start_sample: u64,
     pub end_sample: u64,
@@ -21,7 +24,7 @@ pub struct Row {
 }
 
 // What a frame or a call's end reports.
-#[derive(Drop)]
+#[derive(Clone, Copy)]
 pub enum Report {
     NoRow,
     OneRow(Row),

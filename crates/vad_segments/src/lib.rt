@@ -1,4 +1,7 @@
 // One frame judged and a segment closed: the body of `classify`, and `finalize_segment`, of the Rust's src/vad/detector.rs. What judging changes is a `Track`, passed in and returned. A call's frames in order are vad_classify's.
+
+#![tactic(auto)]
+
 pub mod closing;
 pub mod judging;
 mod loudness;
@@ -13,7 +16,7 @@ use vad_config::{Lengths, VadConfig};
 use vad_row::Report;
 
 // What opening fixed: the settings, the lengths worked out from them, and the weight that the host handed in.
-#[derive(Drop)]
+#[derive(Clone, Copy)]
 pub struct Rules {
     pub config: VadConfig,
     pub lengths: Lengths,
@@ -21,14 +24,14 @@ pub struct Rules {
 }
 
 // One analysis frame: where it begins and ends in the stream, and its energy.
-#[derive(Drop)]
+#[derive(Clone, Copy)]
 pub struct FrameMetrics {
     pub start_sample: u64,
     pub end_sample: u64,
     pub energy: f32,
 }
 
-#[derive(Drop)]
+#[derive(Clone, Copy)]
 pub struct ActiveSegmentState {
     pub start_sample: u64,
     // End of the last loud frame.
@@ -42,14 +45,14 @@ pub struct ActiveSegmentState {
 }
 
 // The Rust's `Option<ActiveSegmentState>`.
-#[derive(Drop)]
+#[derive(Clone, Copy)]
 pub enum ActiveSegment {
     Closed,
     Open(ActiveSegmentState),
 }
 
 // What judging changes. The last two are over all rows since the opening or the latest reset.
-#[derive(Drop)]
+#[derive(Clone, Copy)]
 pub struct Track {
     pub noise_floor: f32,
     // End of the last closed segment; new segments start at or after it.
@@ -60,14 +63,14 @@ pub struct Track {
 }
 
 // A segment closed: the new last segment end, and the row if it was not dropped.
-#[derive(Drop)]
+#[derive(Clone, Copy)]
 pub struct Finalized {
     pub end: u64,
     pub report: Report,
 }
 
 // The track after a frame, the row if one closed, and whether the frame was loud.
-#[derive(Drop)]
+#[derive(Clone, Copy)]
 pub struct Judged {
     pub track: Track,
     pub report: Report,

@@ -1,4 +1,7 @@
 // The detector's state, and which states are sound: refusal 19. Each part is tested before it is added or multiplied, since a state from elsewhere can hold any numbers.
+
+#![tactic(auto)]
+
 pub mod arrays;
 
 ghost use Rattle.std.specs.Prelude.{◌≡◌, not, ◌&&◌, ◌||◌, ◌≤◌, length};
@@ -10,7 +13,7 @@ use vad_config::Lengths;
 use vad_segments::{ActiveSegment, ActiveSegmentState, Rules, Track};
 
 // How far the stream has come. What a call does to it looks at samples and never at energies.
-#[derive(Drop)]
+#[derive(Clone, Copy)]
 pub struct Stream {
     pub carry_len: usize,
     // Where the carry starts in the stream.
@@ -22,7 +25,7 @@ pub struct Stream {
 }
 
 // Where frames are judged. What a call does to it looks at energies and never at samples.
-#[derive(Drop)]
+#[derive(Clone, Copy)]
 pub struct Desk {
     // Whether the first frames are still held back, until the background can be estimated from them.
     pub warming: bool,
@@ -31,7 +34,7 @@ pub struct Desk {
 }
 
 // All of a state but its arrays, which are lent where they are looked at.
-#[derive(Drop)]
+#[derive(Clone, Copy)]
 pub struct Kept {
     pub rules: Rules,
     pub stream: Stream,
@@ -39,7 +42,7 @@ pub struct Kept {
 }
 
 // The Rust's `VadDetector` and `DetectorState`. Past the used part of an array an accepted call leaves zeros.
-#[derive(Drop)]
+#[derive(Clone, Copy)]
 pub struct VadDetector {
     pub kept: Kept,
     // As handed in at opening, a frame long.
