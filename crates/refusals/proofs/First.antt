@@ -3,7 +3,7 @@ use mathlib.Core.Path.{◌≡◌, refl, sym, ap, ◌∙◌}
 use mathlib.Core.Bool.{Bool, true, false, not, cond, true≢false}
 use mathlib.Core.List.{List, [], ◌∷◌, ◌++◌}
 use Prim.Native.Nat.{ℕ}
-use borrow.Author.Tests.{not-true, not-false, eqb-false}
+use borrow.Author.Tests.{eqb-false}
 use lib.Dec.{eqb}
 use lib.ListN.{drop}
 use Rattle.refusals.specs.Refusals.{Case, refusal, accepted, bare, carrying, first_of}
@@ -36,14 +36,14 @@ number_of_lem e = sym (ap (λ (x : Refusal). x.number) e)
 pub told : {r s v : Bool} → r ≡ s → r ≡ v → s ≡ v
 told e h = sym e ∙ h
 
-pub denied : {r s v : Bool} → r ≡ s → not r ≡ v → not s ≡ v
-denied e h = ap not (sym e) ∙ h
+pub denied : {r s v : Bool} → r ≡ s → r ≡ v → not s ≡ not v
+denied e h = ap not (sym e ∙ h)
 
-pub allowed : {r s : Bool} → r ≡ s → not r ≡ false → s ≡ true
-allowed {r} {s} e h = not-false s (denied e h)
+pub allowed : {r s : Bool} → r ≡ s → r ≡ true → s ≡ true
+allowed e h = sym e ∙ h
 
-pub refused : {r s : Bool} → r ≡ s → not r ≡ true → s ≡ false
-refused {r} {s} e h = not-true s (denied e h)
+pub refused : {r s : Bool} → r ≡ s → r ≡ false → s ≡ false
+refused e h = sym e ∙ h
 
 -- ---- what the answer says
 

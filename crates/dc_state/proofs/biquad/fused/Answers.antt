@@ -1,0 +1,14 @@
+use mathlib.Core.Path.{◌≡◌, refl, ap, ◌∙◌}
+use lib.Ieee.{Float, nan, binary32, of_bits, div}
+use borrow.Author.Rules.{rules}
+use Rattle.float.specs.Finite.{or_else}
+use Rattle.float.specs.Fused.{fused_of}
+use Rattle.dc_state.proofs.biquad.fused.Goals as goal
+
+-- the code's 0.0 / 0.0
+no_number : div binary32 (of_bits binary32 0) (of_bits binary32 0) ≡ nan
+unfolding div of_bits
+no_number = refl
+
+pub returns : goal.returns
+returns c = let s = c.args in c.mul_add_or.ensures ∙ ap (λ (x : Float). or_else x (fused_of s.a s.b s.c)) no_number

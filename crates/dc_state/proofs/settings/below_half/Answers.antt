@@ -1,0 +1,5 @@
+use borrow.Author.Rules.{rules}
+use Rattle.dc_state.proofs.settings.below_half.Goals as goal
+
+pub returns : goal.returns
+returns c = simp c.nearest.ensures
