@@ -1,0 +1,7 @@
+use Rattle.vad_segments.specs.Closing.{dropped_of}
+use borrow.Author.Rules.{rules}
+use Rattle.vad_segments.proofs.closing.dropped.Goals as goal
+
+pub returns : goal.returns
+unfolding dropped_of
+returns c = simp (c.greater.ensures, c.lesser.ensures)

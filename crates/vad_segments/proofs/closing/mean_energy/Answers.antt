@@ -1,0 +1,7 @@
+use Rattle.vad_segments.specs.Closing.{mean_energy_of}
+use borrow.Author.Rules.{rules}
+use Rattle.vad_segments.proofs.closing.mean_energy.Goals as goal
+
+pub returns : goal.returns
+unfolding mean_energy_of
+returns c = simp (c.nearest.ensures, c.greater.ensures)

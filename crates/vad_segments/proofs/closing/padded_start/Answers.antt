@@ -1,0 +1,7 @@
+use Rattle.vad_segments.specs.Closing.{padded_start}
+use borrow.Author.Rules.{rules}
+use Rattle.vad_segments.proofs.closing.padded_start.Goals as goal
+
+pub returns : goal.returns
+unfolding padded_start
+returns c = simp (c.greater.ensures, c.saturating_sub.ensures)

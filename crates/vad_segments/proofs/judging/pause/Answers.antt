@@ -1,0 +1,7 @@
+use Rattle.vad_segments.specs.Judging.{paused_of}
+use borrow.Author.Rules.{rules}
+use Rattle.vad_segments.proofs.judging.pause.Goals as goal
+
+pub returns : goal.returns
+unfolding paused_of
+returns c = simp (c.with_active.ensures, c.longer_pause.ensures)

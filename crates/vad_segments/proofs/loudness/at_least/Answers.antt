@@ -1,0 +1,10 @@
+use Rattle.vad_segments.specs.Loudness.{at_least}
+use Rattle.vad_segments.proofs.loudness.at_least.Goals as goal
+
+pub returns-then-x-least : goal.returns-then-x-least
+unfolding at_least
+returns-then-x-least c = simp c.if-x-least.true
+
+pub returns : goal.returns
+unfolding at_least
+returns c = simp c.if-x-least.false

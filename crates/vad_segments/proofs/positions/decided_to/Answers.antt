@@ -1,0 +1,7 @@
+use Rattle.vad_segments.specs.Positions.{decided_to}
+use borrow.Author.Rules.{rules}
+use Rattle.vad_segments.proofs.positions.decided_to.Goals as goal
+
+pub returns : goal.returns
+unfolding decided_to
+returns c = simp (c.greater.ensures, c.lesser.ensures, c.saturating_sub.ensures)
