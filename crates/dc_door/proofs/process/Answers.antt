@@ -1,0 +1,28 @@
+use native.Mathlib.Omega.{arith}
+use lib.ListN.{length}
+use Rattle.dc_door.proofs.Door.{block_long, place_fits, process_kept, output_read}
+use borrow.Author.Rules.{rules}
+use Rattle.dc_door.proofs.process.Goals as goal
+
+pub keep-requires : goal.keep-requires
+keep-requires c =
+    let s = c in
+    let r = c.process-done in
+    let e = rw c.filter_at.ensures at r.ensures in
+    let ws = c.args.state.now in
+    let xs = c.args.samples.now in
+    let room = length c.args.output.now in
+    let low = place_fits ws xs c.args.context room r.result e.0 in
+    record { in_bounds = block_long ws xs c.args.context room r.result e.0; carried_bound = omega arith }
+
+pub returns : goal.returns
+returns c =
+    let s = c in
+    let r = c.process-done in
+    let e = rw c.filter_at.ensures at r.ensures in
+    let k = c.keep in
+    let ws = c.args.state.now in
+    let xs = c.args.samples.now in
+    let out = c.args.output.now in
+    let at = process_kept ws xs c.args.context (length out) r.result e.0 k.result k.ensures.value k.new.state k.ensures.state_left in
+    record { value = at.0; state_left = at.1; output_left = output_read ws xs c.args.context out r.new.output e.1 }

@@ -1,0 +1,6 @@
+use mathlib.Core.Path.{refl}
+use borrow.Author.Rules.{rules}
+use Rattle.dc_door.proofs.settings.Goals as goal
+
+pub returns : goal.returns
+returns c = rw c.order.ensures refl
