@@ -13,4 +13,4 @@ pub returns : goal.returns
 returns c =
     let s = c in
     let xs = c.args.coefficients.now in
-    (goal.at.returns c).After-open.«open».ensures ∙ rw (c.five-second.ensures ∙ five_rest xs, c.five-first.ensures) (opened_all c.args.config xs c.if-coefficients-lt10.false)
+    c.«open».ensures ∙ rw (c.five-second.ensures ∙ five_rest xs, c.five-first.ensures) (opened_all c.args.config xs c.if-coefficients-lt10.false)

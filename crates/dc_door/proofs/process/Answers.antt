@@ -12,8 +12,8 @@ keep-requires c =
     let ws = c.args.state.now in
     let xs = c.args.samples.now in
     let room = length c.args.output.now in
-    let low = place_fits ws xs c.args.context room r.result e.0 in
-    record { in_bounds = block_long ws xs c.args.context room r.result e.0; carried_bound = omega arith }
+    let low = place_fits ws xs c.args.context room r.result e.value in
+    record { in_bounds = block_long ws xs c.args.context room r.result e.value; carried_bound = omega arith }
 
 pub returns : goal.returns
 returns c =
@@ -24,5 +24,5 @@ returns c =
     let ws = c.args.state.now in
     let xs = c.args.samples.now in
     let out = c.args.output.now in
-    let at = process_kept ws xs c.args.context (length out) r.result e.0 k.result k.ensures.value k.new.state k.ensures.state_left in
-    record { value = at.0; state_left = at.1; output_left = output_read ws xs c.args.context out r.new.output e.1 }
+    let at = process_kept ws xs c.args.context (length out) r.result e.value k.result k.ensures.value k.new.state k.ensures.state_left in
+    record { value = at.0; state_left = at.1; output_left = output_read ws xs c.args.context out r.new.output e.output_left }

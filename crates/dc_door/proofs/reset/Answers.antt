@@ -14,4 +14,5 @@ returns c =
     let r = c.reset-done in
     let e = rw c.filter_at.ensures at r.ensures in
     let k = c.keep in
-    reset_kept c.args.state.now r.result e k.result k.ensures.value k.new.state k.ensures.state_left
+    let at = reset_kept c.args.state.now r.result e k.result k.ensures.value k.new.state k.ensures.state_left in
+    record { value = at.0; state_left = at.1 }
