@@ -1,0 +1,16 @@
+use mathlib.Core.Path.{◌≡◌}
+use mathlib.Core.Bool.{true, false}
+use borrow.Author.Tests.{not-true, not-false}
+use Rattle.vad_call.specs.Calls.{holding_with}
+use borrow.Author.Rules.{rules}
+use Rattle.vad_call.proofs.holding.Goals as goal
+
+pub returns-then-not-kept : goal.returns-then-not-kept
+unfolding holding_with
+returns-then-not-kept c = let off : c.args.kept.desk.warming ≡ false = not-true _ c.if-not-kept.true in simp off
+
+pub returns : goal.returns
+unfolding holding_with
+returns c =
+    let on : c.args.kept.desk.warming ≡ true = not-false _ c.if-not-kept.false in
+    simp (on, c.holds.ensures)

@@ -1,0 +1,7 @@
+use Rattle.vad_call.specs.Calls.{refused_by}
+use borrow.Author.Rules.{rules}
+use Rattle.vad_call.proofs.refused.Goals as goal
+
+pub returns : goal.returns
+unfolding refused_by
+returns c = rw c.no_tally.ensures

@@ -1,0 +1,28 @@
+use mathlib.Core.Path.{◌≡◌, refl, sym, ap, ◌∙◌}
+use native.Mathlib.Omega.{arith}
+use lib.ListN.{length}
+use Rattle.lists.proofs.Every.{length_map}
+use Rattle.ranges.specs.Sizes.{frame_most, warmup_most}
+use Rattle.vad_state.specs.State.{state_of}
+use Rattle.vad_state.specs.State.{sound_of}
+use Rattle.vad_state.specs.declared.Kept.{Kept}
+use Rattle.vad_state.specs.declared.VadDetector.{VadDetector}
+use Rattle.vad_state.proofs.Parts.{parts, frame_high}
+use borrow.Author.Rules.{rules}
+use Rattle.vad_call.proofs.run.Goals as goal
+
+pub hear-requires : goal.hear-requires
+hear-requires c =
+    let s = c in
+    record { warmup_value = c.requires.detector_value; window_len = (search rules, search rules, search rules, refl, refl); samples_len_bound = c.requires.samples_len_bound }
+
+pub settled-requires : goal.settled-requires
+settled-requires c =
+    let h = c.hear in
+    let s = c in
+    record { frame_length_bound = (frame_high c.args.detector (parts c.args.detector c.requires.detector_value), h.auto.values, h.auto.energies); carry_len_bound = h.ensures.carry_len_bound }
+
+pub returns : goal.returns
+returns c =
+    let h = c.hear in
+    record { value = c.settled.ensures ∙ sym h.ensures.rows_value; rows_left = h.ensures.rows_left }
