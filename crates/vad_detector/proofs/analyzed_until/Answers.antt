@@ -1,0 +1,7 @@
+use Rattle.vad_detector.specs.Readings.{analyzed_read}
+use borrow.Author.Rules.{rules}
+use Rattle.vad_detector.proofs.analyzed_until.Goals as goal
+
+pub returns : goal.returns
+unfolding analyzed_read
+returns c = c.read.ensures

@@ -1,0 +1,7 @@
+use Rattle.vad_detector.specs.Opening.{fresh_of}
+use borrow.Author.Rules.{rules}
+use Rattle.vad_detector.proofs.fresh.Goals as goal
+
+pub returns : goal.returns
+unfolding fresh_of
+returns c = c.blank.ensures

@@ -1,0 +1,7 @@
+use Rattle.vad_detector.specs.Readings.{undecided_in, undecided_read}
+use borrow.Author.Rules.{rules}
+use Rattle.vad_detector.proofs.undecided_from.Goals as goal
+
+pub returns : goal.returns
+unfolding undecided_read undecided_in
+returns c = simp (c.read.ensures, c.undecided_from-position.ensures)

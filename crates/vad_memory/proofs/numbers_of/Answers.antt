@@ -1,0 +1,12 @@
+use mathlib.Core.Path.{refl}
+use Rattle.lists.proofs.Flags.{flag_byte}
+use Rattle.vad_memory.specs.DetectorState.{tally_numbers, rule_numbers, stream_numbers, active_numbers, desk_numbers, numbers_of}
+use borrow.Author.Rules.{rules}
+use Rattle.vad_memory.proofs.numbers_of.Goals as goal
+
+pub returns : goal.returns
+unfolding numbers_of tally_numbers rule_numbers stream_numbers desk_numbers active_numbers
+returns c =
+    let k = c.args.kept in
+    let s = c.segment_of-active in
+    rw (flag_byte k.rules.config.has_pre_emphasis, flag_byte k.desk.warming, s.ensures.open_value, s.ensures.segment_value) refl

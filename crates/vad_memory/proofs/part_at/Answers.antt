@@ -1,0 +1,7 @@
+use mathlib.Core.Path.{◌∙◌}
+use Rattle.vad_memory.proofs.Parts.{part_filled}
+use borrow.Author.Rules.{rules}
+use Rattle.vad_memory.proofs.part_at.Goals as goal
+
+pub returns : goal.returns
+returns c = let s = c in c.filled.ensures ∙ part_filled c.args.floats.now c.args.at c.requires

@@ -1,0 +1,7 @@
+use mathlib.Core.Path.{◌∙◌}
+use Rattle.vad_memory.proofs.Parts.{warmup_filled}
+use borrow.Author.Rules.{rules}
+use Rattle.vad_memory.proofs.warmup_at.Goals as goal
+
+pub returns : goal.returns
+returns c = let s = c in c.put.ensures ∙ warmup_filled c.args.floats.now c.requires
