@@ -1,0 +1,5 @@
+use borrow.Author.Rules.{rules}
+use Rattle.vad_door.proofs.emptied.Goals as goal
+
+pub returns : goal.returns
+returns c = rw c.detector_at.ensures at c.reset.ensures

@@ -1,0 +1,6 @@
+use Rattle.vad_door.proofs.Door.{talk_read_lem}
+use borrow.Author.Rules.{rules}
+use Rattle.vad_door.proofs.talk_samples.Goals as goal
+
+pub returns : goal.returns
+returns c = talk_read_lem _ _ _ c.read.ensures
