@@ -1,0 +1,6 @@
+use mathlib.Core.Path.{refl}
+use borrow.Author.Rules.{rules}
+use Rattle.fallowcart.proofs.fallowcart_score_bits.Goals as goal
+
+pub returns : goal.returns
+returns c = rw (c.score.ensures, c.from_bits.ensures) refl
