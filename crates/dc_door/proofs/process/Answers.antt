@@ -6,7 +6,6 @@ use Rattle.dc_door.proofs.process.Goals as goal
 
 pub keep-requires : goal.keep-requires
 keep-requires c =
-    let s = c in
     let r = c.process-done in
     let e = rw c.filter_at.ensures at r.ensures in
     let ws = c.args.state.now in
@@ -17,7 +16,6 @@ keep-requires c =
 
 pub returns : goal.returns
 returns c =
-    let s = c in
     let r = c.process-done in
     let e = rw c.filter_at.ensures at r.ensures in
     let k = c.keep in

@@ -28,7 +28,6 @@ loop-i-init c = (omega arith, refl, rw (add-zero c.args.at) refl)
 
 pub loop-i-preserved : goal.loop-i-preserved
 loop-i-preserved c =
-    let s = c in
     let l = c.loop-i in
     let more = c.loop-i-test.true in
     let long : length (set l.words (c.args.at + l.i) c.to_bits.result) ≡ length l.words = simp length-set in
@@ -36,6 +35,5 @@ loop-i-preserved c =
 
 pub returns : goal.returns
 returns c =
-    let s = c in
     let l = c.loop-i in
     sym (done l.words c.args.numbers.now (c.args.at + l.i) l.i c.loop-i-test.false) ∙ l.invariant.2

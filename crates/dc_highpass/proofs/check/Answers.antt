@@ -27,7 +27,6 @@ returns-then-room-samples c =
 pub returns-then-place-samples : goal.returns-then-place-samples
 unfolding check_of first_of
 returns-then-place-samples c =
-    let r = c in
     let xs = c.args.samples.now in
     let e = c.clean-place.ensures in
     let bad : clean_of xs < length xs = (let t = c.if-place-samples.true in omega arith) in
@@ -42,7 +41,6 @@ returns-then-place-samples c =
 pub returns : goal.returns
 unfolding check_of first_of
 returns c =
-    let r = c in
     let xs = c.args.samples.now in
     let e = c.clean-place.ensures in
     let good : length xs ≤ clean_of xs = (let t = c.if-place-samples.false in omega arith) in

@@ -10,7 +10,6 @@ use Rattle.dc_highpass.proofs.clear.Goals as goal
 
 pub loop-i-preserved : goal.loop-i-preserved
 loop-i-preserved c =
-    let l = c in
     let i = c.loop-i.i in
     let end = c.args.end in
     let long : length (set c.loop-i.output i zero32) ≡ length c.loop-i.output = simp length-set in (
@@ -21,4 +20,4 @@ loop-i-preserved c =
     )
 
 pub returns : goal.returns
-returns c = let l = c in sym (clear_end c.loop-i.output c.loop-i.i c.args.end zero32 c.loop-i-test.false) ∙ c.loop-i.invariant.3
+returns c = sym (clear_end c.loop-i.output c.loop-i.i c.args.end zero32 c.loop-i-test.false) ∙ c.loop-i.invariant.3

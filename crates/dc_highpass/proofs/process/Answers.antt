@@ -8,13 +8,11 @@ use Rattle.dc_highpass.proofs.process.Goals.{Else-refusal-ne0}
 use Rattle.dc_highpass.proofs.process.Goals as goal
 
 -- past the first test nothing was refused
-taken : (k : Else-refusal-ne0) → let s = k in (check_of k.args.filter k.args.samples.now (length k.args.output.now)).number ≡ 0
+taken : (k : Else-refusal-ne0) → (check_of k.args.filter k.args.samples.now (length k.args.output.now)).number ≡ 0
 taken k = ap (λ (q : Refusal). q.number) (sym k.check-refusal.ensures) ∙ k.if-refusal-ne0.false
 
 pub returns-then-refusal-ne0 : goal.returns-then-refusal-ne0
 returns-then-refusal-ne0 c =
-    let k = c in
-    let s = c in
     let f = c.args.filter in
     let xs = c.args.samples.now in
     let out = c.args.output.now in
@@ -22,16 +20,11 @@ returns-then-refusal-ne0 c =
 
 pub run-requires : goal.run-requires
 run-requires c =
-    let k = c in
-    let s = c in
     (checked c.args.filter c.args.samples.now (length c.args.output.now) (taken (goal.at.run-requires c).Else-refusal-ne0)).fits
 
 pub returns : goal.returns
 returns c =
-    let ran = c in
     let b = c.update_dc_bias-biased in
-    let k = c in
-    let s = c in
     let f = c.args.filter in
     let xs = c.args.samples.now in
     let out = c.args.output.now in

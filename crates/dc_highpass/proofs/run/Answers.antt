@@ -14,24 +14,16 @@ use Rattle.dc_highpass.proofs.run.Goals as goal
 
 pub clear-requires : goal.clear-requires
 clear-requires c =
-    let l = c in
     let inside = c.loop-i-test.true in
     let room = c.requires in
     let kept = c.loop-i.invariant.1 in
     (omega arith, omega arith)
 
 pub shape_of-output-then-not-is_finite : goal.shape_of-output-then-not-is_finite
-shape_of-output-then-not-is_finite c =
-    let cut = c in
-    let l = c in
-    c.clear.auto.output ∙ c.loop-i.invariant.1
+shape_of-output-then-not-is_finite c = c.clear.auto.output ∙ c.loop-i.invariant.1
 
 pub returns-then-not-is_finite : goal.returns-then-not-is_finite
 returns-then-not-is_finite c =
-    let cut = c in
-    let k = c in
-    let l = c in
-    let s = c in
     let xs = c.args.samples.now in
     let f = c.args.filter in
     let inside = c.loop-i-test.true in
@@ -42,7 +34,6 @@ returns-then-not-is_finite c =
 
 pub loop-i-preserved : goal.loop-i-preserved
 loop-i-preserved c =
-    let l = c in
     let xs = c.args.samples.now in
     let i = c.loop-i.i in
     let f = c.loop-i.filter in
@@ -66,8 +57,6 @@ shape_of-output c = c.loop-i.invariant.1
 
 pub returns : goal.returns
 returns c =
-    let l = c in
-    let s = c in
     let xs = c.args.samples.now in
     let f = c.args.filter in
     let none = results_end c.loop-i.filter c.loop-i.i xs c.loop-i-test.false in

@@ -13,14 +13,11 @@ returns-then-samples-eq0 c = let s = c.args in bias_empty s.filter s.samples.now
 
 pub returns-then-not-listening : goal.returns-then-not-listening
 returns-then-not-listening c =
-    let k = c in
     let s = c.args in
     bias_speech s.filter s.samples.now s.context (not-false _ c.if-not-filter.false) (filled_of_lem s.samples.now c.if-samples-eq0.false) (sym c.listening.ensures ∙ c.if-not-listening.true)
 
 pub returns : goal.returns
 unfolding bias_of
 returns c =
-    let l = c in
-    let k = c in
     let s = c.args in
     bias_new s.filter s.samples.now s.context (not-false _ c.if-not-filter.false) (filled_of_lem s.samples.now c.if-samples-eq0.false) (sym c.listening.ensures ∙ c.if-not-listening.false) c.fused.result (rw (← c.mean.ensures) c.fused.ensures)

@@ -7,7 +7,6 @@ use Rattle.float.proofs.mul_add_or.Goals as goal
 
 pub returns-in-Finite : goal.returns-in-Finite
 returns-in-Finite c =
-    let a = c in
     let r = c.narrowed-quick.result in
     let e : r ≡ Finite c.in-Finite.x = c.in-Finite.is in
     let f = narrow_fused c.args.a c.args.b c.args.c c.wide_bits.result r c.in-Finite.x (T_of c.well_formed.0.1) (T_of c.well_formed.1.0.1) c.wide_bits.ensures c.narrowed-quick.ensures e in

@@ -17,18 +17,15 @@ known x b e t = subst (λ (z : ℕ). Decoded x z) (sym e) (decoded x t)
 
 pub returns-then-field-eq255 : goal.returns-then-field-eq255
 returns-then-field-eq255 c =
-    let a = c in
     no_root c.args.x (T_of c.well_formed.0.1) (ap field_of (sym c.to_bits-b.ensures) ∙ sym c.field.ensures ∙ c.if-field-eq255.true)
 
 pub returns-then-m-eq0 : goal.returns-then-m-eq0
 returns-then-m-eq0 c =
-    let a = c in
     let b = c.to_bits-b.result in
     zero_root c.args.x b (known c.args.x b c.to_bits-b.ensures (T_of c.well_formed.0.1)) (λ e. c.if-field-eq255.false (c.field.ensures ∙ e)) (sym c.significand-m.ensures ∙ c.if-m-eq0.true)
 
 pub returns-then-negative : goal.returns-then-negative
 returns-then-negative c =
-    let a = c in
     let b = c.to_bits-b.result in
     minus_root c.args.x b (known c.args.x b c.to_bits-b.ensures (T_of c.well_formed.0.1))
     (λ e. c.if-field-eq255.false (c.field.ensures ∙ e))
@@ -46,7 +43,6 @@ positive_root-requires c =
 
 pub returns : goal.returns
 returns c =
-    let a = c in
     let b = c.to_bits-b.result in
     c.positive_root.ensures
     ∙ ap₂ (λ (m p : ℕ). rounded (round binary32 false (twice_root (m * 2 ^ (p + 150))) (2 ^ 151))) c.significand-m.ensures c.place.ensures

@@ -11,22 +11,18 @@ field-says x b r e f = sym (f ∙ ap field_of e)
 
 pub returns-then-field-eq255 : goal.returns-then-field-eq255
 returns-then-field-eq255 c =
-    let a = c in
     no_first c.args.a c.args.b c.args.c (T_of c.well_formed.0.1) (field-says c.args.a c.to_bits-x.result c.field.result c.to_bits-x.ensures c.field.ensures ∙ c.if-field-eq255.true)
 
 pub returns-then-field-eq255-2 : goal.returns-then-field-eq255-2
 returns-then-field-eq255-2 c =
-    let a = c in
     no_second c.args.a c.args.b c.args.c (T_of c.well_formed.1.0.1) (field-says c.args.b c.to_bits-y.result c.field-2.result c.to_bits-y.ensures c.field-2.ensures ∙ c.if-field-eq255-2.true)
 
 pub returns-then-field-eq255-3 : goal.returns-then-field-eq255-3
 returns-then-field-eq255-3 c =
-    let a = c in
     no_third c.args.a c.args.b c.args.c (T_of c.well_formed.1.1.0.1) (field-says c.args.c c.to_bits-z.result c.field-3.result c.to_bits-z.ensures c.field-3.ensures ∙ c.if-field-eq255-3.true)
 
 pub returns : goal.returns
 returns c =
-    let a = c in
     c.fused_bits.ensures
     ∙ ap₂ (λ (x y : ℕ). fused_bits_of x y c.to_bits-z.result) c.to_bits-x.ensures c.to_bits-y.ensures
     ∙ ap (λ (z : ℕ). fused_bits_of (to_bits binary32 c.args.a) (to_bits binary32 c.args.b) z) c.to_bits-z.ensures

@@ -9,7 +9,6 @@ use Rattle.ranges.proofs.all_inside.Goals as goal
 
 pub loop-k-preserved : goal.loop-k-preserved
 loop-k-preserved c =
-    let l = c in
     let a = c.args in
     let w = c.inside.ensures in
     let e = c.both-all.ensures ∙ ap (λ (b : Bool). c.loop-k.all && b) w in
@@ -18,6 +17,5 @@ loop-k-preserved c =
 
 pub returns : goal.returns
 returns c =
-    let l = c in
     let a = c.args in
     sym (all_end a.low a.high c.loop-k.k a.xs.now c.loop-k.all c.loop-k-test.false) ∙ c.loop-k.invariant.1

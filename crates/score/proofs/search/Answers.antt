@@ -13,7 +13,6 @@ loop-hi-init c = let l = score_le (of_bits binary32 c.args.bits) in omega arith
 
 pub loop-hi-preserved-then-thresholds-mid : goal.loop-hi-preserved-then-thresholds-mid
 loop-hi-preserved-then-thresholds-mid c =
-    let s = c in
     let k = c.loop-hi.lo + (c.loop-hi.hi - c.loop-hi.lo) / 2 in
     let reached : get_or c.table-thresholds.result k 0 ≤ c.args.bits = omega arith in
     let l = score_ge _ k (omega arith) (reaches_up _ _ _ reached c.requires (c.table-thresholds.ensures k (omega arith)).reached) in

@@ -43,52 +43,38 @@ energies-long : (m : After-measure-framed) → length m.measure-framed.new.energ
 energies-long m = m.measure-framed.auto.energies ∙ m.requires.window_len.4
 
 -- what was put, in the state's words
-values-are : (g : After-gather-last) → let s = g in g.gather-last.new.values ≡ sets g.args.values.now 0 (values_of (state g.before.before.before.before.before.before.before.before.before.before.before) g.args.samples.now)
+values-are : (g : After-gather-last) → g.gather-last.new.values ≡ sets g.args.values.now 0 (values_of (state g.before.before.before.before.before.before.before.before.before.before.before) g.args.samples.now)
 values-are g =
-    let s = g in
     let coeff = g.coefficient-coeff in
     g.gather-last.ensures.values_left ∙ ap (sets g.args.values.now 0) (gathered_values (state g.before.before.before.before.before.before.before.before.before.before.before) g.args.samples.now coeff.result coeff.ensures)
 
 -- as many as are held
 waited : (w : After-waiting-held) → w.waiting-held.result ≡ length (waiting_of (state w.before.before.before.before.before.before.before.before.before.before.before.before.before.before.before))
-waited w = let s = w in w.waiting-held.ensures ∙ waiting_count (state w.before.before.before.before.before.before.before.before.before.before.before.before.before.before.before) (sound w.before.before.before.before.before.before.before.before.before.before.before.before.before.before.before) (warmup-long w.before.before.before.before.before.before.before.before.before.before.before.before.before.before.before)
+waited w = w.waiting-held.ensures ∙ waiting_count (state w.before.before.before.before.before.before.before.before.before.before.before.before.before.before.before) (sound w.before.before.before.before.before.before.before.before.before.before.before.before.before.before.before) (warmup-long w.before.before.before.before.before.before.before.before.before.before.before.before.before.before.before)
 
-consumed_is : (m : After-measure-framed) → let g = m in let s = m in m.measure-framed.result.consumed ≡ consumed_from m.args.finish (state m.before.before.before.before.before.before.before.before.before.before.before.before.before.before.before.before.before.before) (take ((state m.before.before.before.before.before.before.before.before.before.before.before.before.before.before.before.before.before.before).kept.stream.carry_len + length m.args.samples.now - 0) m.gather-last.new.values)
+consumed_is : (m : After-measure-framed) → m.measure-framed.result.consumed ≡ consumed_from m.args.finish (state m.before.before.before.before.before.before.before.before.before.before.before.before.before.before.before.before.before.before) (take ((state m.before.before.before.before.before.before.before.before.before.before.before.before.before.before.before.before.before.before).kept.stream.carry_len + length m.args.samples.now - 0) m.gather-last.new.values)
 consumed_is m =
-    let g = m in
-    let s = m in
     m.measure-framed.ensures.consumed_value ∙ framed_consumed m.args.finish (state m.before.before.before.before.before.before.before.before.before.before.before.before.before.before.before.before.before.before) (take (m.args.kept.stream.carry_len + length m.args.samples.now - 0) m.gather-last.new.values)
 
-frames-are : (m : After-measure-framed) → let g = m in let s = m in m.measure-framed.result.frames ≡ length (measured_from m.args.finish (state m.before.before.before.before.before.before.before.before.before.before.before.before.before.before.before.before.before.before) (take ((state m.before.before.before.before.before.before.before.before.before.before.before.before.before.before.before.before.before.before).kept.stream.carry_len + length m.args.samples.now - 0) m.gather-last.new.values))
+frames-are : (m : After-measure-framed) → m.measure-framed.result.frames ≡ length (measured_from m.args.finish (state m.before.before.before.before.before.before.before.before.before.before.before.before.before.before.before.before.before.before) (take ((state m.before.before.before.before.before.before.before.before.before.before.before.before.before.before.before.before.before.before).kept.stream.carry_len + length m.args.samples.now - 0) m.gather-last.new.values))
 frames-are m =
-    let g = m in
-    let s = m in
-    let w = m in
     m.measure-framed.ensures.frames_value ∙ ap length (joined_measured m.args.finish (state m.before.before.before.before.before.before.before.before.before.before.before.before.before.before.before.before.before.before) m.waiting-held.result (m.waiting-held.ensures ∙ waiting_count (state m.before.before.before.before.before.before.before.before.before.before.before.before.before.before.before.before.before.before) (sound m.before.before.before.before.before.before.before.before.before.before.before.before.before.before.before.before.before.before) (warmup-long m.before.before.before.before.before.before.before.before.before.before.before.before.before.before.before.before.before.before)) (take (m.args.kept.stream.carry_len + length m.args.samples.now - 0) m.gather-last.new.values))
 
-energies-are : (m : After-measure-framed) → let g = m in let s = m in m.measure-framed.new.energies ≡ sets m.args.energies.now 0 (measured_from m.args.finish (state m.before.before.before.before.before.before.before.before.before.before.before.before.before.before.before.before.before.before) (take ((state m.before.before.before.before.before.before.before.before.before.before.before.before.before.before.before.before.before.before).kept.stream.carry_len + length m.args.samples.now - 0) m.gather-last.new.values))
+energies-are : (m : After-measure-framed) → m.measure-framed.new.energies ≡ sets m.args.energies.now 0 (measured_from m.args.finish (state m.before.before.before.before.before.before.before.before.before.before.before.before.before.before.before.before.before.before) (take ((state m.before.before.before.before.before.before.before.before.before.before.before.before.before.before.before.before.before.before).kept.stream.carry_len + length m.args.samples.now - 0) m.gather-last.new.values))
 energies-are m =
-    let g = m in
-    let s = m in
-    let w = m in
     m.measure-framed.ensures.energies_left ∙ ap (sets m.args.energies.now 0) (joined_measured m.args.finish (state m.before.before.before.before.before.before.before.before.before.before.before.before.before.before.before.before.before.before) m.waiting-held.result (m.waiting-held.ensures ∙ waiting_count (state m.before.before.before.before.before.before.before.before.before.before.before.before.before.before.before.before.before.before) (sound m.before.before.before.before.before.before.before.before.before.before.before.before.before.before.before.before.before.before) (warmup-long m.before.before.before.before.before.before.before.before.before.before.before.before.before.before.before.before.before.before)) (take (m.args.kept.stream.carry_len + length m.args.samples.now - 0) m.gather-last.new.values))
 
 -- no more is used up than there is
-used-up : (m : After-measure-framed) → let s = m in m.measure-framed.result.consumed ≤ m.args.kept.stream.carry_len + length m.args.samples.now
+used-up : (m : After-measure-framed) → m.measure-framed.result.consumed ≤ m.args.kept.stream.carry_len + length m.args.samples.now
 used-up m =
-    let g = m in
-    let s = m in
     consumed_few m.args.finish (state m.before.before.before.before.before.before.before.before.before.before.before.before.before.before.before.before.before.before) (sound m.before.before.before.before.before.before.before.before.before.before.before.before.before.before.before.before.before.before) m.args.samples.now m.requires.samples_len_bound.0 (window-long m.before.before.before.before.before.before.before.before.before.before.before.before.before.before.before.before.before.before) (carry-long m.before.before.before.before.before.before.before.before.before.before.before.before.before.before.before.before.before.before) m.args.values.now m.gather-last.new.values m.requires.window_len.3 (m.gather-last.ensures.values_left ∙ ap (sets m.args.values.now 0) (gathered_values (state m.before.before.before.before.before.before.before.before.before.before.before.before.before.before.before.before.before.before) m.args.samples.now m.coefficient-coeff.result m.coefficient-coeff.ensures)) m.measure-framed.result.consumed (consumed_is m)
 
 counted : (m : After-measure-framed) → m.measure-framed.result.frames ≤ energies_most
 counted m =
-    let g = m in
-    let s = m in
     frames_fit m.args.finish (state m.before.before.before.before.before.before.before.before.before.before.before.before.before.before.before.before.before.before) (sound m.before.before.before.before.before.before.before.before.before.before.before.before.before.before.before.before.before.before) m.args.samples.now m.requires.samples_len_bound.0 (window-long m.before.before.before.before.before.before.before.before.before.before.before.before.before.before.before.before.before.before) (carry-long m.before.before.before.before.before.before.before.before.before.before.before.before.before.before.before.before.before.before) m.args.values.now m.gather-last.new.values m.requires.window_len.3 (m.gather-last.ensures.values_left ∙ ap (sets m.args.values.now 0) (gathered_values (state m.before.before.before.before.before.before.before.before.before.before.before.before.before.before.before.before.before.before) m.args.samples.now m.coefficient-coeff.result m.coefficient-coeff.ensures)) m.measure-framed.result.consumed (consumed_is m) m.args.energies.now m.measure-framed.new.energies m.requires.window_len.4 (energies-are m) m.measure-framed.result.frames (frames-are m)
 
 pub gather-last-requires : goal.gather-last-requires
 gather-last-requires c =
-    let s = c in
     let total = total-fits (goal.at.gather-last-requires c).Start in
     let long = c.requires.window_len.1 in
     let room = c.requires.window_len.3 in
@@ -101,16 +87,12 @@ overflow_add-total c = let total = total-fits (goal.at.overflow_add-total c).Sta
 
 pub slice_bounds-measure-end : goal.slice_bounds-measure-end
 slice_bounds-measure-end c =
-    let g = c in
     let long = values-long (goal.at.slice_bounds-measure-end c).After-gather-last in
     let total = total-fits (goal.at.slice_bounds-measure-end c).Start in
     search rules
 
 pub measure-framed-requires : goal.measure-framed-requires
 measure-framed-requires c =
-    let g = c in
-    let s = c in
-    let w = c in
     let r = c.args.kept.rules.lengths in
     let low : 8 ≤ r.hop_length = hop_low (state (goal.at.measure-framed-requires c).Start) (sound (goal.at.measure-framed-requires c).Start) in
     let high : r.hop_length ≤ r.frame_length = hop_high (state (goal.at.measure-framed-requires c).Start) (sound (goal.at.measure-framed-requires c).Start) in
@@ -127,15 +109,12 @@ overflow_add-processed_samples c = let fits = c.requires.samples_len_bound.1 in 
 
 pub slice_bounds-hold_or_judge-end : goal.slice_bounds-hold_or_judge-end
 slice_bounds-hold_or_judge-end c =
-    let m = c in
     let count = counted (goal.at.slice_bounds-hold_or_judge-end c).After-measure-framed in
     let long = energies-long (goal.at.slice_bounds-hold_or_judge-end c).After-measure-framed in
     search rules
 
 pub hold_or_judge-outcome-requires : goal.hold_or_judge-outcome-requires
 hold_or_judge-outcome-requires c =
-    let m = c in
-    let s = c in
     let few = length-take (c.measure-framed.result.frames - 0) c.measure-framed.new.energies in
     let long = energies-long (goal.at.hold_or_judge-outcome-requires c).After-measure-framed in
     let received = c.requires.samples_len_bound.1 in
@@ -148,8 +127,6 @@ overflow_sub-total c =
 
 pub overflow_add-kept : goal.overflow_add-kept
 overflow_add-kept c =
-    let m = c in
-    let s = c in
     let used = used-up (goal.at.overflow_add-kept c).After-measure-framed in
     let total = total-fits (goal.at.overflow_add-kept c).Start in
     let start : c.args.kept.stream.carry_start ≤ positions_first = start-within (goal.at.overflow_add-kept c).Start in
@@ -163,9 +140,6 @@ shape_of-energies c = c.measure-framed.auto.energies
 
 pub returns : goal.returns
 returns c =
-    let m = c in
-    let g = c in
-    let s = c in
     let d = state (goal.at.returns c).Start in
     let j = c.hold_or_judge-outcome in
     let h =

@@ -28,13 +28,11 @@ due-within u =
     omega arith
 
 -- past the test the rows fit
-rows_fit : (k : Else-rows-needed) → let s = k in k.classify-classified.result.track.rows_reported - k.args.kept.desk.track.rows_reported ≤ length k.args.rows.now / row_width
+rows_fit : (k : Else-rows-needed) → k.classify-classified.result.track.rows_reported - k.args.kept.desk.track.rows_reported ≤ length k.args.rows.now / row_width
 rows_fit k = omega arith
 
 pub classify-classified-requires : goal.classify-classified-requires
 classify-classified-requires c =
-    let u = c in
-    let s = c in
     let k = c.args.kept in
     let due = c.due_of-due.result.now in
     let room : Within positions_first counts_first c.seeded.result = rw c.seeded.ensures (seeded_within k due c.requires.lengths_within.1) in
@@ -43,8 +41,6 @@ classify-classified-requires c =
 
 pub overflow_sub-needed : goal.overflow_sub-needed
 overflow_sub-needed c =
-    let v = c in
-    let s = c in
     let d = c.args.kept in
     let more : c.classify-classified.result.track.rows_reported ≡ c.args.kept.desk.track.rows_reported + length (rows_due c.args.finish d c.args.received c.due_of-due.result.now) =
     rows_more c.args.finish d c.args.received c.due_of-due.result.now c.classify-classified.result (verdict (goal.at.overflow_sub-needed c).After-classify-classified) in
@@ -53,8 +49,6 @@ overflow_sub-needed c =
 pub returns-then-rows-needed : goal.returns-then-rows-needed
 unfolding room_of
 returns-then-rows-needed c =
-    let v = c in
-    let s = c in
     let d = c.args.kept in
     let es = c.args.energies.now in
     let out = c.args.rows.now in
@@ -67,8 +61,6 @@ returns-then-rows-needed c =
 pub report-requires : goal.report-requires
 unfolding room_of
 report-requires c =
-    let v = c in
-    let s = c in
     let d = c.args.kept in
     let n = c.classify-classified.result.track.rows_reported - c.args.kept.desk.track.rows_reported in
     let room = rows_fit (goal.at.report-requires c).Else-rows-needed in
@@ -78,8 +70,6 @@ report-requires c =
 pub returns : goal.returns
 unfolding room_of
 returns c =
-    let v = c in
-    let s = c in
     let d = c.args.kept in
     let es = c.args.energies.now in
     let out = c.args.rows.now in

@@ -10,14 +10,12 @@ use Rattle.vad_call.proofs.report.Goals as goal
 
 pub returns-then-needed-eq0 : goal.returns-then-needed-eq0
 returns-then-needed-eq0 c =
-    let s = c in
     let due = rows_due c.args.finish c.args.kept c.args.received c.args.due.now in
     let none : 0 ≡ length due = omega (arith, c.if-needed-eq0.true, c.requires.needed_value.0) in
     rows_none due c.args.rows.now none
 
 pub write_rows-requires : goal.write_rows-requires
 write_rows-requires c =
-    let s = c in
     let d = c.args.kept in
     let seed = c.seeded in
     let grid = c.grid_start in
@@ -26,7 +24,6 @@ write_rows-requires c =
 
 pub returns : goal.returns
 returns c =
-    let s = c in
     let seed = c.seeded in
     let grid = c.grid_start in
     let written = c.write_rows in

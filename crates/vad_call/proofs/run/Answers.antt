@@ -13,13 +13,11 @@ use Rattle.vad_call.proofs.run.Goals as goal
 
 pub hear-requires : goal.hear-requires
 hear-requires c =
-    let s = c in
     record { warmup_value = c.requires.detector_value; window_len = (search rules, search rules, search rules, refl, refl); samples_len_bound = c.requires.samples_len_bound }
 
 pub settled-requires : goal.settled-requires
 settled-requires c =
     let h = c.hear in
-    let s = c in
     record { frame_length_bound = (frame_high c.args.detector (parts c.args.detector c.requires.detector_value), h.auto.values, h.auto.energies); carry_len_bound = h.ensures.carry_len_bound }
 
 pub returns : goal.returns

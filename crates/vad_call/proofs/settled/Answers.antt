@@ -18,7 +18,6 @@ fits k = k.requires.carry_len_bound (zero k)
 
 pub returns-then-refusal-ne0 : goal.returns-then-refusal-ne0
 returns-then-refusal-ne0 c =
-    let s = c in
     let some : 1 ≤ c.args.heard.refusal.number = omega (arith, c.if-refusal-ne0.true) in
     settled_refused c.args.heard c.args.values.now c.args.energies.now c.args.detector some
 
@@ -42,7 +41,6 @@ slice_bounds-joined-end-2 c =
 
 pub joined-requires : goal.joined-requires
 joined-requires c =
-    let s = c in
     let h = c.args.heard in
     let short = (fits (goal.at.joined-requires c).Else-refusal-ne0).1 in
     let few = (fits (goal.at.joined-requires c).Else-refusal-ne0).2 in
@@ -52,5 +50,4 @@ joined-requires c =
 
 pub returns : goal.returns
 returns c =
-    let s = c in
     settled_accepted c.args.heard c.args.values.now c.args.energies.now c.args.detector (zero (goal.at.returns c).Else-refusal-ne0) c.joined.result c.joined.ensures

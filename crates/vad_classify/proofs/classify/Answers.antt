@@ -15,22 +15,19 @@ use Rattle.vad_classify.proofs.classify.Goals as goal
 
 -- the frames judged, as the loop leaves them
 passed : (e : After-loop-i) → let s = e.args in e.loop-i.t ≡ track_after s.rules s.received s.track (frames_at s.rules.lengths s.received s.first s.energies.now)
-passed e = let l = e in let s = e.args in sym (track_end e.loop-i.i s.energies.now e.loop-i-test.false s.rules s.received e.loop-i.start e.loop-i.t) ∙ e.loop-i.invariant.3
+passed e = let s = e.args in sym (track_end e.loop-i.i s.energies.now e.loop-i-test.false s.rules s.received e.loop-i.start e.loop-i.t) ∙ e.loop-i.invariant.3
 
 counted : (e : After-loop-i) → let s = e.args in e.loop-i.loud ≡ count_of (louds_of s.rules s.received s.track (frames_at s.rules.lengths s.received s.first s.energies.now))
 counted e =
-    let l = e in
     let s = e.args in
     let none = louds_end e.loop-i.i s.energies.now e.loop-i-test.false s.rules s.received e.loop-i.start e.loop-i.t in
     omega arith
 
 pub judge-judged-requires : goal.judge-judged-requires
-judge-judged-requires c = let l = c in let s = c in (c.requires.lengths_within.0, roomy_within c.loop-i.i c.loop-i.start c.loop-i.t (omega arith) c.loop-i.invariant.1, omega arith)
+judge-judged-requires c = (c.requires.lengths_within.0, roomy_within c.loop-i.i c.loop-i.start c.loop-i.t (omega arith) c.loop-i.invariant.1, omega arith)
 
 pub loop-i-preserved : goal.loop-i-preserved
 loop-i-preserved c =
-    let l = c in
-    let s = c in
     let r = c.args.rules in
     let received = c.args.received in
     let es = c.args.energies.now in
@@ -52,13 +49,11 @@ loop-i-preserved c =
 
 pub ended-end-requires : goal.ended-end-requires
 ended-end-requires c =
-    let s = c in
     let room = track_within c.args.rules c.args.received c.requires.received_le_positions_first.0 c.requires.lengths_within.0 c.args.energies.now 0 c.args.first c.args.track (omega arith) (omega arith, c.requires.lengths_within.1) in
     (c.requires.lengths_within.0, rw (passed (goal.at.ended-end-requires c).After-loop-i) room, omega arith)
 
 pub overflow_sub-result : goal.overflow_sub-result
 overflow_sub-result c =
-    let e = c in
     let s = c.args in
     let loud = counted (goal.at.overflow_sub-result c).After-loop-i in
     let most = loud_most s.rules s.received s.track (frames_at s.rules.lengths s.received s.first s.energies.now) in
@@ -67,8 +62,6 @@ overflow_sub-result c =
 
 pub returns : goal.returns
 returns c =
-    let e = c in
-    let l = c in
     let s = c.args in
     let end = c.ended-end in
     let es = s.energies.now in

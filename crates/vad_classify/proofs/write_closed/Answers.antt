@@ -13,23 +13,19 @@ use Rattle.vad_classify.proofs.write_closed.Goals.{After-judge-judged}
 use Rattle.vad_classify.proofs.write_closed.Goals as goal
 
 -- the frame at hand, judged
-judged : (k : After-judge-judged) → let l = k in let s = k.args in
+judged : (k : After-judge-judged) → let s = k.args in
     k.judge-judged.result ≡ judged_of s.rules s.received k.loop-i.t (frame_at s.rules.lengths s.received k.loop-i.start (get_or s.energies.now k.loop-i.i nan))
 judged k = k.judge-judged.ensures ∙ rw k.frame_at.ensures
 
 pub judge-judged-requires : goal.judge-judged-requires
-judge-judged-requires c = let l = c in let s = c in (c.requires.lengths_within.0, roomy_within c.loop-i.i c.loop-i.start c.loop-i.t (omega arith) c.loop-i.invariant.1, omega arith)
+judge-judged-requires c = (c.requires.lengths_within.0, roomy_within c.loop-i.i c.loop-i.start c.loop-i.t (omega arith) c.loop-i.invariant.1, omega arith)
 
 pub put_report-end-requires : goal.put_report-end-requires
 put_report-end-requires c =
-    let l = c in
-    let s = c in
     let more = width_step c.loop-i.i c.args.energies.now c.loop-i-test.true c.args.rules c.args.received c.loop-i.start c.loop-i.t c.judge-judged.result (judged (goal.at.put_report-end-requires c).After-judge-judged) in omega arith
 
 pub loop-i-preserved : goal.loop-i-preserved
 loop-i-preserved c =
-    let l = c in
-    let s = c in
     let r = c.args.rules in
     let received = c.args.received in
     let es = c.args.energies.now in
@@ -56,8 +52,6 @@ shape_of-rows c = c.loop-i.invariant.2
 
 pub returns : goal.returns
 returns c =
-    let l = c in
-    let s = c in
     let es = c.args.energies.now in
     let none = flat_end c.loop-i.i es c.loop-i-test.false c.args.rules c.args.received c.loop-i.start c.loop-i.t in
     let count = ap length none in record { track_value = sym (track_end c.loop-i.i es c.loop-i-test.false c.args.rules c.args.received c.loop-i.start c.loop-i.t) ∙ c.loop-i.invariant.3; end_value = omega arith; rows_left = rw none at c.loop-i.invariant.5 }

@@ -11,21 +11,18 @@ use Rattle.vad_classify.proofs.write_rows.Goals as goal
 
 pub write_closed-written-requires : goal.write_closed-written-requires
 write_closed-written-requires c =
-    let s = c in
     let a = c.args in
     let width = call_width a.finish a.rules a.received a.track (frames_at a.rules.lengths a.received a.first a.energies.now) _ refl _ refl in
     record { lengths_within = c.requires.lengths_within; received_le_positions_first = c.requires.received_le_positions_first; energies_in_bounds = omega arith }
 
 pub ended-end-requires : goal.ended-end-requires
 ended-end-requires c =
-    let s = c in
     let a = c.args in
     let room = track_within a.rules a.received c.requires.received_le_positions_first.0 c.requires.lengths_within.0 a.energies.now 0 a.first a.track (omega arith) (omega arith, c.requires.lengths_within.1) in
     (c.requires.lengths_within.0, rw c.write_closed-written.ensures.track_value room, omega arith)
 
 pub put_report-requires : goal.put_report-requires
 put_report-requires c =
-    let s = c in
     let a = c.args in
     let fits = c.requires.energies_in_bounds in
     let written = c.write_closed-written in

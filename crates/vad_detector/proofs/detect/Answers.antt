@@ -12,7 +12,6 @@ taken k = checked _ _ (ap (λ (q : Refusal). q.number) (sym k.check-refusal.ensu
 
 pub returns-then-refusal-ne0 : goal.returns-then-refusal-ne0
 returns-then-refusal-ne0 c =
-    let k = c in
     let s = c.args in
     let r = c.check-refusal in record { value = detect_refused s.detector s.samples.now r.result r.ensures c.if-refusal-ne0.true (length s.rows.now) c.refused.result c.refused.ensures; rows_left = rows_kept s.detector s.samples.now r.result r.ensures c.if-refusal-ne0.true s.rows.now }
 
@@ -21,7 +20,5 @@ run-requires c = let t = taken (goal.at.run-requires c).Else-refusal-ne0 in reco
 
 pub returns : goal.returns
 returns c =
-    let ran = c in
-    let k = c in
     let s = c.args in
     let r = c.check-refusal in record { value = detect_ran s.detector s.samples.now r.result r.ensures c.if-refusal-ne0.false (length s.rows.now) c.run.result c.run.ensures.value; rows_left = rows_written s.detector s.samples.now r.result r.ensures c.if-refusal-ne0.false s.rows.now c.run.new.rows c.run.ensures.rows_left }

@@ -10,7 +10,6 @@ accepted k = sym k.opening_refusal-refusal.ensures ∙ k.if-refusal-ne0.false
 
 pub returns-then-refusal-ne0 : goal.returns-then-refusal-ne0
 returns-then-refusal-ne0 c =
-    let k = c in
     let s = c.args in
     let r = c.opening_refusal-refusal in
     open_refused s.config s.window.now s.speech_floor_rise r.result r.ensures c.if-refusal-ne0.true c.nothing_open.result c.nothing_open.ensures
@@ -20,7 +19,6 @@ fresh-requires c = let s = c.args in window_short s.config s.window.now s.speech
 
 pub returns : goal.returns
 returns c =
-    let k = c in
     let s = c.args in
     let r = c.opening_refusal-refusal in
     let l = c.lengths_of in

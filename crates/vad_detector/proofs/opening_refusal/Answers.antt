@@ -14,7 +14,6 @@ returns-then-refusal-ne0 c = let s = c.args in refused_settings s.config s.windo
 
 pub returns-then-not-weights_fit : goal.returns-then-not-weights_fit
 returns-then-not-weights_fit c =
-    let k = c in
     let s = c.args in
     let l = c.lengths_of-lengths in
     let h = c.weights_fit in
@@ -22,7 +21,6 @@ returns-then-not-weights_fit c =
 
 pub returns : goal.returns
 returns c =
-    let k = c in
     let s = c.args in
     let l = c.lengths_of-lengths in
     let h = c.weights_fit in

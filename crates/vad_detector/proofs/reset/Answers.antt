@@ -19,7 +19,6 @@ returns-then-not-sound c = simp (sym c.sound.ensures ∙ c.if-not-sound.true)
 pub returns-then-not-start_allowed : goal.returns-then-not-start_allowed
 unfolding reset_of first_of
 returns-then-not-start_allowed c =
-    let k = c in
     let late : start_in c.args.stream_start_time ≡ false = sym c.start_allowed.ensures ∙ c.if-not-start_allowed.true in
     simp (taken (goal.at.returns-then-not-start_allowed c).Else-not-sound, late)
 
@@ -29,6 +28,5 @@ restarted-requires c = taken (goal.at.restarted-requires c).Else-not-sound
 pub returns : goal.returns
 unfolding reset_of first_of
 returns c =
-    let k = c in
     let early : start_in c.args.stream_start_time ≡ true = sym c.start_allowed.ensures ∙ c.if-not-start_allowed.false in
     simp (taken (goal.at.returns c).Else-not-sound, early, c.restarted.ensures)

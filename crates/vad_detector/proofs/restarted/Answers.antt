@@ -16,12 +16,12 @@ short : (s : Start) → s.args.detector.kept.rules.lengths.frame_length ≤ fram
 short s = frame_high s.args.detector (parts _ s.requires)
 
 pub slice_bounds-fresh-end : goal.slice_bounds-fresh-end
-slice_bounds-fresh-end c = let s = c in let h = short (goal.at.slice_bounds-fresh-end c).Start in
+slice_bounds-fresh-end c = let h = short (goal.at.slice_bounds-fresh-end c).Start in
     let long : length c.args.detector.window ≡ frame_most = search rules in
     le_trans h (le_of_eq (sym long))
 
 pub fresh-requires : goal.fresh-requires
-fresh-requires c = let s = c in first_short c.args.detector.kept.rules.lengths.frame_length c.args.detector.window (short (goal.at.fresh-requires c).Start)
+fresh-requires c = first_short c.args.detector.kept.rules.lengths.frame_length c.args.detector.window (short (goal.at.fresh-requires c).Start)
 
 pub returns : goal.returns
 unfolding reset_to restarted_of window_of

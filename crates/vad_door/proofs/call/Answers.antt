@@ -28,7 +28,6 @@ pub answer-requires : goal.answer-requires
 answer-requires c =
     let block = c.check_at-refusal in
     let kept = c.kept_at-kept in
-    let k = c in
     let s = c.args in
     let small = check_carries s.numbers.now s.floats.now s.finish s.samples.now s.rows.now (good (goal.at.answer-requires c).Else-not-is_readable) kept.result kept.ensures block.result block.ensures in
     omega arith
@@ -37,7 +36,6 @@ pub returns-then-refusal-ne0 : goal.returns-then-refusal-ne0
 returns-then-refusal-ne0 c =
     let block = c.check_at-refusal in
     let kept = c.kept_at-kept in
-    let k = c in
     let s = c.args in
     let some : block.result.number ≡ 0 → ⊥ = (λ z. let t = c.if-refusal-ne0.true in omega arith) in
     let ends = hear_stopped s.numbers.now s.floats.now s.finish s.samples.now s.rows.now (good (goal.at.returns-then-refusal-ne0 c).Else-not-is_readable) kept.result kept.ensures block.result block.ensures some c.answer.result c.answer.ensures in
@@ -47,7 +45,6 @@ pub call_checked-requires : goal.call_checked-requires
 call_checked-requires c =
     let block = c.check_at-refusal in
     let kept = c.kept_at-kept in
-    let k = c in
     let s = c.args in
     let none : block.result.number ≡ 0 = (let t = c.if-refusal-ne0.false in omega arith) in
     let passed = check_passed s.numbers.now s.floats.now s.finish s.samples.now s.rows.now (good (goal.at.call_checked-requires c).Else-not-is_readable) kept.result kept.ensures block.result block.ensures none in
@@ -58,7 +55,6 @@ returns c =
     let ran = c.call_checked in
     let block = c.check_at-refusal in
     let kept = c.kept_at-kept in
-    let k = c in
     let s = c.args in
     let none : block.result.number ≡ 0 = (let t = c.if-refusal-ne0.false in omega arith) in
     let ends = hear_ran s.numbers.now s.floats.now s.finish s.samples.now s.rows.now (good (goal.at.returns c).Else-not-is_readable) kept.result kept.ensures block.result block.ensures none ran.result ran.new.numbers ran.new.floats ran.new.rows (ran.ensures.value, (ran.ensures.numbers_left, (ran.ensures.floats_left, ran.ensures.rows_left))) in

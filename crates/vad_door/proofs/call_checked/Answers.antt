@@ -11,7 +11,6 @@ use Rattle.vad_door.proofs.call_checked.Goals as goal
 
 pub hear_at-heard-requires : goal.hear_at-heard-requires
 hear_at-heard-requires c =
-    let s = c in
     let a = c.args in
     let kept = c.requires.kept_value.0 in
     record { floats_value = ap sound_of (state_lent a.numbers.now a.floats.now a.kept kept) ∙ c.requires.kept_value.1; singles_first_in_bounds = (readable_room _ _ c.requires.floats_value, c.requires.samples_len_bound.0, c.requires.samples_len_bound.1) }
@@ -19,7 +18,6 @@ hear_at-heard-requires c =
 pub answer-word-requires : goal.answer-word-requires
 answer-word-requires c =
     let ran = c.hear_at-heard in
-    let s = c in
     let a = c.args in
     let small = carries_small a.numbers.now a.floats.now a.kept c.requires.kept_value.0 a.finish a.samples.now (length a.rows.now) c.requires.floats_value c.requires.kept_value.1 ran.result ran.ensures.refusal_value ran.new.floats ran.ensures.floats_left c.requires.samples_len_bound.0 in
     omega arith
@@ -35,7 +33,6 @@ returns-then-heard-eq0 c =
     let put = c.put_kept in
     let word = c.answer-word in
     let ran = c.hear_at-heard in
-    let s = c in
     let a = c.args in
     let kept = c.requires.kept_value.0 in
     let none : ran.result.refusal.number ≡ 0 = (let t = c.if-heard-eq0.true in omega arith) in
@@ -47,7 +44,6 @@ pub returns-else-heard-eq0 : goal.returns-else-heard-eq0
 returns-else-heard-eq0 c =
     let word = c.answer-word in
     let ran = c.hear_at-heard in
-    let s = c in
     let a = c.args in
     let kept = c.requires.kept_value.0 in
     let some : ran.result.refusal.number ≡ 0 → ⊥ = (λ z. let t = c.if-heard-eq0.false in absurd (t z)) in

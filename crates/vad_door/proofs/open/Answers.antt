@@ -24,7 +24,6 @@ pub returns : goal.returns
 returns c =
     let put = c.put_opened in
     let new = c.«open» in
-    let k = c in
     let s = c.args in
     let ends = open_put s.config s.window.now s.speech_floor_rise s.numbers.now s.floats.now (long (goal.at.returns c).Else-not-long_enough) new.result new.ensures put.result put.ensures.value put.new.numbers put.ensures.numbers_left put.new.floats put.ensures.floats_left in
     record { value = ends.0; numbers_left = ends.1.0; floats_left = ends.1.1 }

@@ -27,7 +27,6 @@ pub returns-then-not-sound_at : goal.returns-then-not-sound_at
 returns-then-not-sound_at c =
     let test = c.sound_at in
     let kept = c.kept_at-kept in
-    let k = c in
     let s = c.args in
     read_stopped s.numbers.now s.floats.now s.asked _ (good (goal.at.returns-then-not-sound_at c).Else-not-is_readable) kept.result kept.ensures test.result test.ensures (c.if-not-sound_at.true) (omega arith)
 
@@ -42,6 +41,5 @@ returns c =
     let word = c.word_of in
     let test = c.sound_at in
     let kept = c.kept_at-kept in
-    let k = c in
     let s = c.args in
     read_done s.numbers.now s.floats.now s.asked c.answer.result (good (goal.at.returns c).Else-not-is_readable) kept.result kept.ensures test.result test.ensures (c.if-not-sound_at.false) word.result word.ensures.value c.answer.ensures

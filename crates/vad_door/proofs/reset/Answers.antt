@@ -25,7 +25,6 @@ emptied-opened-requires c = good (goal.at.emptied-opened-requires c).Else-not-is
 pub returns-then-opened-ne0 : goal.returns-then-opened-ne0
 returns-then-opened-ne0 c =
     let new = c.emptied-opened in
-    let k = c in
     let s = c.args in
     let some : new.result.refusal ≡ 0 → ⊥ = (λ z. let t = c.if-opened-ne0.true in omega arith) in
     let ends = reset_refused s.numbers.now s.floats.now (good (goal.at.returns-then-opened-ne0 c).Else-not-is_readable) s.stream_start_time new.result new.ensures _ (omega arith) some in
@@ -38,7 +37,6 @@ pub returns : goal.returns
 returns c =
     let put = c.put_opened in
     let new = c.emptied-opened in
-    let k = c in
     let s = c.args in
     let none : new.result.refusal ≡ 0 = (let t = c.if-opened-ne0.false in omega arith) in
     let ends = reset_put s.numbers.now s.floats.now (good (goal.at.returns c).Else-not-is_readable) s.stream_start_time new.result new.ensures put.result put.ensures.value none put.new.numbers put.ensures.numbers_left put.new.floats put.ensures.floats_left in

@@ -12,7 +12,6 @@ use Rattle.vad_frames.proofs.emphasize_each.Goals as goal
 
 pub loop-i-preserved : goal.loop-i-preserved
 loop-i-preserved c =
-    let l = c in
     let a = c.args.coeff in
     let xs = c.args.samples.now in
     let i = c.loop-i.i in
@@ -29,7 +28,6 @@ loop-i-preserved c =
 
 pub returns : goal.returns
 returns c =
-    let l = c in
     let xs = c.args.samples.now in
     let over : length xs ≤ c.loop-i.i = omega arith in
     rw (emphasized_end c.args.coeff c.loop-i.last c.loop-i.i xs over) at c.loop-i.invariant.2

@@ -9,6 +9,4 @@ use Rattle.vad_frames.proofs.frame_energy.Goals as goal
 pub returns : goal.returns
 unfolding energy_of mean_square_of
 returns c =
-    let s = c in
-    let n = c in
     c.or_zero.ensures ∙ ap or_zero (c.sqrt.ensures ∙ ap root_of (ap₂ (div binary32) c.sum_of_squares.ensures c.nearest.ensures))

@@ -14,21 +14,17 @@ use Rattle.vad_frames.proofs.measure.Goals.{Else-not-starts}
 use Rattle.vad_frames.proofs.measure.Goals as goal
 
 -- past the test a frame starts here
-starts-here : (k : Else-not-starts) → let l = k in let g = k.args in taken g.finish (length g.window.now) (length g.values.now - k.loop-start.start) ≡ true
+starts-here : (k : Else-not-starts) → let g = k.args in taken g.finish (length g.window.now) (length g.values.now - k.loop-start.start) ≡ true
 starts-here k = sym k.starts.ensures ∙ k.if-not-starts.false
 
 pub bounds-energies-count : goal.bounds-energies-count
 bounds-energies-count c =
-    let k = c in
-    let l = c in
     let g = c.args in
     let more = ap length (frames_step g.finish (length g.window.now) g.hop_length c.loop-start.start g.values.now (omega arith) (omega arith) (starts-here (goal.at.bounds-energies-count c).Else-not-starts)) in
     omega arith
 
 pub loop-start-preserved : goal.loop-start-preserved
 loop-start-preserved c =
-    let k = c in
-    let l = c in
     let g = c.args in
     let xs = g.values.now in
     let ws = g.window.now in
@@ -49,7 +45,6 @@ loop-start-preserved c =
 
 pub returns-after-loop-start : goal.returns-after-loop-start
 returns-after-loop-start c =
-    let l = c in
     let g = c.args in
     let none = frames_end g.finish (length g.window.now) g.hop_length c.loop-start.start g.values.now (omega arith) in
     let count = ap length none in
@@ -57,7 +52,6 @@ returns-after-loop-start c =
 
 pub returns-then-not-starts : goal.returns-then-not-starts
 returns-then-not-starts c =
-    let l = c in
     let g = c.args in
     let bad = sym c.starts.ensures ∙ c.if-not-starts.true in
     let none = frames_stop g.finish (length g.window.now) g.hop_length c.loop-start.start g.values.now (omega arith) bad in

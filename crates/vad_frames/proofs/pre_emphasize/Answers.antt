@@ -9,7 +9,6 @@ returns-then-settle c = record { value = c.last_sample.ensures; values_left = c.
 
 pub returns : goal.returns
 returns c =
-    let k = c in
     let a = c.args in
     let vs = emphasized a.coeff a.previous a.samples.now in
     record { value = c.last_sample-2.ensures; values_left = c.emphasize_each.ensures ∙ c.settle.ensures.same_past vs (emphasized_length a.coeff a.previous a.samples.now) }

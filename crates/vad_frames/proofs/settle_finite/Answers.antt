@@ -22,16 +22,12 @@ loop-i-init c = (omega arith, refl, c.requires.1.1, λ h. refl, λ vs h. refl)
 
 pub quick_sum-quick-requires : goal.quick_sum-quick-requires
 quick_sum-quick-requires c =
-    let l = c in
-    let s = c in
     let xs = c.args.samples.now in
     let inside : c.loop-i.i < length xs = omega arith in
     (c.requires.1.0, finite_neg c.loop-i.prior c.loop-i.invariant.2, every_at (λ (x : Float). T (finite x)) c.loop-i.i nan xs c.requires.1.2 inside)
 
 pub loop-i-preserved : goal.loop-i-preserved
 loop-i-preserved c =
-    let l = c in
-    let s = c in
     let a = c.args.coeff in
     let xs = c.args.samples.now in
     let i = c.loop-i.i in
@@ -56,7 +52,5 @@ loop-i-preserved c =
 
 pub returns : goal.returns
 returns c =
-    let l = c in
-    let s = c in
     let over : length c.args.samples.now ≤ c.loop-i.i = omega arith in
     record { values_left = λ h. rw (emphasized_end c.args.coeff c.loop-i.prior c.loop-i.i c.args.samples.now over) at (c.loop-i.invariant.3 h); same_past = c.loop-i.invariant.4 }

@@ -11,7 +11,6 @@ use Rattle.vad_frames.proofs.sum_of_squares.Goals as goal
 pub loop-i-preserved : goal.loop-i-preserved
 unfolding square_of
 loop-i-preserved c =
-    let l = c in
     let xs = c.args.frame.now in
     let ws = c.args.window.now in
     let i = c.loop-i.i in
@@ -21,5 +20,4 @@ loop-i-preserved c =
 
 pub returns : goal.returns
 returns c =
-    let l = c in
     sym (squares_end c.loop-i.total c.loop-i.i c.args.frame.now c.args.window.now (omega arith)) ∙ c.loop-i.invariant.1

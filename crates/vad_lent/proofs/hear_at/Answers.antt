@@ -23,21 +23,17 @@ same w =
 
 pub hear-heard-requires : goal.hear-heard-requires
 hear-heard-requires c =
-    let w = c in
-    let s = c in
     let long = parts_long c.args.floats.now c.requires.singles_first_in_bounds.0 in record { warmup_value = ap sound_of (same (goal.at.hear-heard-requires c).After-warmup_in) ∙ c.requires.floats_value; window_len = (ap length c.window_in.ensures ∙ long.0, ap length c.carry_in.ensures ∙ long.1, ap length c.warmup_in.ensures ∙ long.2, refl, refl); samples_len_bound = (c.requires.singles_first_in_bounds.1, c.requires.singles_first_in_bounds.2) }
 
 pub settle_at-requires : goal.settle_at-requires
 unfolding state_at
 settle_at-requires c =
     let h = c.hear-heard in
-    let s = c in
     record { singles_first_in_bounds = (c.requires.singles_first_in_bounds.0, frame_high (state_at c.args.kept c.args.floats.now) (parts (state_at c.args.kept c.args.floats.now) c.requires.floats_value), h.auto.values, h.auto.energies); carry_len_bound = h.ensures.carry_len_bound }
 
 pub returns : goal.returns
 returns c =
     let h = c.hear-heard in
-    let w = c in
     let s = c.args in
     let fs = s.floats.now in
     let xs = s.samples.now in

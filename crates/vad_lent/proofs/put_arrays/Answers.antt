@@ -4,7 +4,6 @@ use Rattle.vad_lent.proofs.put_arrays.Goals as goal
 
 pub returns : goal.returns
 returns c =
-    let s = c in
     let one = c.clear in
     let two = c.fill_slice in
     let three = c.fill_slice-2 in

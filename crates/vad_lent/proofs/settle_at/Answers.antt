@@ -35,7 +35,6 @@ slice_bounds-put_arrays-end-2 c = let r = room (goal.at.slice_bounds-put_arrays-
 
 pub put_arrays-requires : goal.put_arrays-requires
 put_arrays-requires c =
-    let s = c in
     let r = room (goal.at.put_arrays-requires c).Else-heard-ne0 in
     let few = length-take (c.args.heard.consumed + c.args.heard.kept.stream.carry_len - c.args.heard.consumed) (drop c.args.heard.consumed c.args.values.now) in
     let held = length-take (c.args.heard.kept.desk.held - 0) c.args.energies.now in

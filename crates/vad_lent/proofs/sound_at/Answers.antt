@@ -7,7 +7,6 @@ use Rattle.vad_lent.proofs.sound_at.Goals as goal
 
 pub sound_lent-requires : goal.sound_lent-requires
 sound_lent-requires c =
-    let s = c in
     let long = parts_long c.args.floats.now c.requires in
     (ap length c.window_in.ensures ∙ long.0, ap length c.carry_in.ensures ∙ long.1, ap length c.warmup_in.ensures ∙ long.2)
 

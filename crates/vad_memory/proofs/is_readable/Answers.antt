@@ -14,7 +14,7 @@ use Rattle.vad_memory.proofs.is_readable.Goals as goal
 
 -- each test that was passed
 
-enough : (k : Else-not-long_enough) → let s = k in long_enough k.args.numbers.now k.args.floats.now ≡ true
+enough : (k : Else-not-long_enough) → long_enough k.args.numbers.now k.args.floats.now ≡ true
 enough k = sym k.long_enough.ensures ∙ k.if-not-long_enough.false
 
 named : (k : Else-numbers-ne-LAYOUT) → eqb (word_at k.args.numbers.now in-numbers.layout) layout_name ≡ true
@@ -38,7 +38,6 @@ warmed k =
 pub returns-then-not-long_enough : goal.returns-then-not-long_enough
 unfolding readable
 returns-then-not-long_enough c =
-    let s = c in
     let short : long_enough c.args.numbers.now c.args.floats.now ≡ false = sym c.long_enough.ensures ∙ c.if-not-long_enough.true in
     rw short refl
 

@@ -4,4 +4,4 @@ use borrow.Author.Rules.{rules}
 use Rattle.vad_memory.proofs.part_at.Goals as goal
 
 pub returns : goal.returns
-returns c = let s = c in c.filled.ensures ∙ part_filled c.args.floats.now c.args.at c.requires
+returns c = c.filled.ensures ∙ part_filled c.args.floats.now c.args.at c.requires

@@ -26,7 +26,6 @@ put_kept-requires c =
 
 pub returns : goal.returns
 returns c =
-    let s = c in
     let d = c.args.detector in
     let arrays = c.put_arrays in
     let put = c.put_kept.ensures in

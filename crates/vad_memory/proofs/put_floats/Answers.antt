@@ -3,4 +3,4 @@ use borrow.Author.Rules.{rules}
 use Rattle.vad_memory.proofs.put_floats.Goals as goal
 
 pub returns : goal.returns
-returns c = let s = c in put_from c.args.to.now c.args.numbers.now c.put.new.to c.args.at c.requires c.put.ensures
+returns c = put_from c.args.to.now c.args.numbers.now c.put.new.to c.args.at c.requires c.put.ensures

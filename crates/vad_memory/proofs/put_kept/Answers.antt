@@ -18,5 +18,4 @@ put_floats-requires c = let long = (told (goal.at.put_floats-requires c).Start).
 
 pub returns : goal.returns
 returns c =
-    let s = c in
     let ns = c.args.numbers.now in record { numbers_left = c.put_numbers.ensures ∙ ap (sets ns 0) c.numbers_of.ensures ∙ numbers_put c.args.kept c.args.tally ns (told (goal.at.returns c).Start).numbers; floats_left = c.put_floats.ensures ∙ ap (sets c.args.floats.now in-floats.singles) c.singles_of.ensures }

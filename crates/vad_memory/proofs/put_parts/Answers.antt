@@ -10,7 +10,6 @@ use Rattle.vad_memory.proofs.put_parts.Goals as goal
 
 pub returns : goal.returns
 returns c =
-    let s = c in
     let window : length c.args.window.now ≡ frame_most = search rules in
     let carry : length c.args.carry.now ≡ frame_most = search rules in
     let warmup : length c.args.warmup.now ≡ warmup_most = search rules in

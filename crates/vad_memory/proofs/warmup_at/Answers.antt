@@ -4,4 +4,4 @@ use borrow.Author.Rules.{rules}
 use Rattle.vad_memory.proofs.warmup_at.Goals as goal
 
 pub returns : goal.returns
-returns c = let s = c in c.put.ensures ∙ warmup_filled c.args.floats.now c.requires
+returns c = c.put.ensures ∙ warmup_filled c.args.floats.now c.requires

@@ -15,11 +15,9 @@ loop-i-init c = (omega arith, seed_first _ _ _ (omega arith))
 
 pub loop-i-preserved : goal.loop-i-preserved
 loop-i-preserved c =
-    let l = c in
     let es = c.args.energies.now in
     (omega arith, rw c.lesser-quietest.ensures (ap (at_least _) (least_step c.loop-i.i es c.loop-i-test.true c.loop-i.quietest) ∙ c.loop-i.invariant.1))
 
 pub returns : goal.returns
 returns c =
-    let l = c in
     c.at_least.ensures ∙ ap (at_least _) (sym (least_end c.loop-i.quietest c.loop-i.i _ c.loop-i-test.false)) ∙ c.loop-i.invariant.1

@@ -44,7 +44,6 @@ returns-then-stream-carry_len c =
 pub returns-then-not-all_inside : goal.returns-then-not-all_inside
 unfolding carry_sound
 returns-then-not-all_inside c =
-    let k = c in
     let s = c.args in
     let far = ap (λ xs. all_within (neg loudest32) xs loudest32) (sym (from_start s.stream.carry_len s.carry.now)) ∙ sym c.all_inside.ensures ∙ c.if-not-all_inside.true in
     simp (short (goal.at.returns-then-not-all_inside c).Else-frame_length-carry_len, joined (goal.at.returns-then-not-all_inside c).Else-stream-carry_len, far)
@@ -52,7 +51,6 @@ returns-then-not-all_inside c =
 pub returns : goal.returns
 unfolding carry_sound in_domain
 returns c =
-    let k = c in
     let s = c.args in
     let near = ap (λ xs. all_within (neg loudest32) xs loudest32) (sym (from_start s.stream.carry_len s.carry.now)) ∙ sym c.all_inside.ensures ∙ c.if-not-all_inside.false in
     simp (short (goal.at.returns c).Else-frame_length-carry_len, joined (goal.at.returns c).Else-stream-carry_len, near) c.inside.ensures

@@ -31,7 +31,6 @@ returns-then-lengths-held c =
 
 pub overflow_mul-held : goal.overflow_mul-held
 overflow_mul-held c =
-    let s = c in
     let few : c.args.desk.held < c.args.lengths.warmup_frames = omega (arith, c.if-lengths-held.false) in
     let small = held_fits c.args.desk.held c.args.lengths.hop_length c.args.lengths.warmup_frames few c.requires.0 c.requires.1 in
     record { fits = omega (arith, small) }
@@ -45,7 +44,6 @@ returns-then-held-lengths c =
 pub returns-then-not-all_inside : goal.returns-then-not-all_inside
 unfolding held_sound
 returns-then-not-all_inside c =
-    let k = c in
     let s = c.args in
     let far = ap (λ xs. all_within zero32 xs loudest32) (sym (from_start s.desk.held s.warmup.now)) ∙ sym c.all_inside.ensures ∙ c.if-not-all_inside.true in
     simp (few (goal.at.returns-then-not-all_inside c).Else-lengths-held, placed (goal.at.returns-then-not-all_inside c).Else-held-lengths, far)
@@ -53,7 +51,6 @@ returns-then-not-all_inside c =
 pub returns : goal.returns
 unfolding held_sound
 returns c =
-    let k = c in
     let s = c.args in
     let near = ap (λ xs. all_within zero32 xs loudest32) (sym (from_start s.desk.held s.warmup.now)) ∙ sym c.all_inside.ensures ∙ c.if-not-all_inside.false in
     simp (few (goal.at.returns c).Else-lengths-held, placed (goal.at.returns c).Else-held-lengths, near) c.is_closed.ensures

@@ -30,13 +30,11 @@ returns-then-not-same_lengths c =
 
 pub slice_bounds-weights_in-end : goal.slice_bounds-weights_in-end
 slice_bounds-weights_in-end c =
-    let s = c in
     let short : c.args.rules.lengths.frame_length ≤ frame_most = frame_short c.args.rules (accepted (goal.at.slice_bounds-weights_in-end c).Else-validate-ne0) (same_parts _ _ (derived (goal.at.slice_bounds-weights_in-end c).Else-not-same_lengths)) in
     search rules
 
 pub returns : goal.returns
 unfolding settings_sound
 returns c =
-    let k = c in
     let s = c.args in
     simp (eq-eqb _ _ (accepted (goal.at.returns c).Else-validate-ne0), derived (goal.at.returns c).Else-not-same_lengths) (c.weights_in.ensures ∙ ap (λ xs. weights_in xs s.rules.speech_floor_rise) (from_start s.rules.lengths.frame_length s.window.now))

@@ -18,12 +18,8 @@ returns-then-not-judging_sound c = not_judged (state_of c.args.kept c.args.windo
 
 pub warmup_sound-requires : goal.warmup_sound-requires
 warmup_sound-requires c =
-    let k = c in
-    let s = c in
     (warmup_short (state_of c.args.kept c.args.window.now c.args.carry.now c.args.warmup.now) (streamed (goal.at.warmup_sound-requires c).Else-not-stream_sound), hop_short (state_of c.args.kept c.args.window.now c.args.carry.now c.args.warmup.now) (streamed (goal.at.warmup_sound-requires c).Else-not-stream_sound), c.requires.2)
 
 pub returns : goal.returns
 returns c =
-    let e = c in
-    let k = c in
     c.warmup_sound.ensures ∙ all_sound (state_of c.args.kept c.args.window.now c.args.carry.now c.args.warmup.now) (streamed (goal.at.returns c).Else-not-stream_sound) (sym c.judging_sound.ensures ∙ c.if-not-judging_sound.false)

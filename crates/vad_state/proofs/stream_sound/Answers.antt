@@ -16,7 +16,6 @@ returns-then-not-settings_sound c = simp (sym c.settings_sound.ensures ∙ c.if-
 
 pub carry_sound-requires : goal.carry_sound-requires
 carry_sound-requires c =
-    let s = c in
     let set = settings_parts c.args.rules c.args.window.now (settled (goal.at.carry_sound-requires c).Else-not-settings_sound) in
     (frame_short c.args.rules set.0 set.1, c.requires.1)
 

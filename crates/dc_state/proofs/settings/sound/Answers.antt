@@ -11,14 +11,11 @@ returns-then-validate-ne0 c = simp (ne_eqb _ _ (λ e. c.if-validate-ne0.true (c.
 pub returns-then-not-is_finite : goal.returns-then-not-is_finite
 unfolding sound_of
 returns-then-not-is_finite c =
-    let v = c in
     simp (eq-eqb _ _ (sym c.validate.ensures ∙ c.if-validate-ne0.false), sym c.is_finite.ensures ∙ c.if-not-is_finite.true)
 
 pub returns-then-not-remembers_finite : goal.returns-then-not-remembers_finite
 unfolding sound_of
 returns-then-not-remembers_finite c =
-    let b = c in
-    let v = c in
     simp (
       eq-eqb _ _ (sym c.validate.ensures ∙ c.if-validate-ne0.false),
       sym c.is_finite.ensures ∙ c.if-not-is_finite.false,
@@ -28,9 +25,6 @@ returns-then-not-remembers_finite c =
 pub returns : goal.returns
 unfolding sound_of
 returns c =
-    let f = c in
-    let b = c in
-    let v = c in
     simp (
       eq-eqb _ _ (sym c.validate.ensures ∙ c.if-validate-ne0.false),
       sym c.is_finite.ensures ∙ c.if-not-is_finite.false,

@@ -21,7 +21,6 @@ test d e x y b p q t = sym (lt_places y x 314) ∙ sym (ap₂ (λ (u v : ℤ). l
 
 pub returns-then-d-e : goal.returns-then-d-e
 returns-then-d-e c = λ x y p q u v.
-    let a = c in
     let s = c.args.s in
     let t = c.args.t in
     let e : held c.args.e ≡ sub_ℕ x 314 = place_held c.args.e c.requires.2 ∙ p in
@@ -33,7 +32,6 @@ returns-then-d-e c = λ x y p q u v.
 
 pub returns : goal.returns
 returns c = λ x y p q u v.
-    let a = c in
     let s = c.args.s in
     let t = c.args.t in
     let e : held c.args.e ≡ sub_ℕ x 314 = place_held c.args.e c.requires.2 ∙ p in

@@ -47,7 +47,6 @@ whole x y z s t u p c e f g h k =
 
 pub overflow_mul-p : goal.overflow_mul-p
 overflow_mul-p c =
-    let a = c in
     record { fits = lt_of_lt_of_le (product_lt c.significand.result c.significand-2.result c.args.x c.args.y c.significand.ensures c.significand-2.ensures) (lit≤ tt) }
 
 pub product_exponent-e-requires : goal.product_exponent-e-requires
@@ -58,7 +57,6 @@ addend_exponent-requires c = exponent_small c.exponent-3.result c.args.z c.expon
 
 pub aligned_sum-requires : goal.aligned_sum-requires
 aligned_sum-requires c =
-    let a = c in
     let e = product-place c.product_exponent-e.result c.significand.result c.significand-2.result c.exponent.result c.exponent-2.result c.args.x c.args.y c.significand.ensures c.significand-2.ensures c.exponent.ensures c.exponent-2.ensures c.product_exponent-e.ensures in
     let d = c.addend_exponent.ensures (Q c.args.z) (exponent-held c.exponent-3.result c.args.z c.exponent-3.ensures) in (
       product_lt c.significand.result c.significand-2.result c.args.x c.args.y c.significand.ensures c.significand-2.ensures,
@@ -69,7 +67,6 @@ aligned_sum-requires c =
 
 pub returns : goal.returns
 returns c =
-    let a = c in
     let x = c.args.x in
     let y = c.args.y in
     let z = c.args.z in

@@ -12,14 +12,12 @@ gap-requires c = (place_small c.args.e c.requires.1, place_small c.args.d c.requ
 
 pub rounded_sum-requires : goal.rounded_sum-requires
 rounded_sum-requires c =
-    let a = c in
     let l : c.jam.result ≤ c.args.y + 1 = le_trans (le_of_eq c.jam.ensures) (jam_le c.args.y c.gap.result) in
     let h = c.requires.0 in
     (omega arith, place_small c.args.e c.requires.1)
 
 pub returns : goal.returns
 returns c = λ i j p q.
-    let a = c in
     let e : held c.args.e ≡ sub_ℕ i 314 = place_held c.args.e c.requires.1 ∙ p in
     let d : held c.args.d ≡ sub_ℕ j 314 = place_held c.args.d c.requires.2 ∙ q in
     c.rounded_sum.ensures i e

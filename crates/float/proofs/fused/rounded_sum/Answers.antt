@@ -16,14 +16,13 @@ mag_le s x t y = go (beq s t) (ltb x y) x y
 
 pub magnitude_bits-bits-requires : goal.magnitude_bits-bits-requires
 magnitude_bits-bits-requires c =
-    let a = c in (
+    (
       lt_of_le_of_lt (le_trans (le_of_eq c.sum_size.ensures) (mag_le c.args.s c.args.x c.args.t c.args.y)) c.requires.0,
       place_small c.args.e c.requires.1,
     )
 
 pub returns : goal.returns
 returns c = λ i p.
-    let a = c in
     c.pack.ensures
     ∙ c.magnitude_bits-bits.ensures c.sum_negative-neg.result i (place_held c.args.e c.requires.1 ∙ p)
     ∙ ap₂ (λ (n : Bool) (w : ℕ). rounded (round binary32 n (w * 2 ^ i) (2 ^ 314))) c.sum_negative-neg.ensures c.sum_size.ensures

@@ -15,22 +15,20 @@ pub float_to_float-bits-3 : goal.float_to_float-bits-3
 float_to_float-bits-3 c = casts c.args.c c.row_known-3-1.given c.requires.2
 
 pub float_to_bits-bits : goal.float_to_bits-bits
-float_to_bits-bits c = let s = c in wide_number c.args.a c.args.b c.args.c c.row_known-1.given c.row_known-2-1.given c.requires
+float_to_bits-bits c = wide_number c.args.a c.args.b c.args.c c.row_known-1.given c.row_known-2-1.given c.requires
 
 pub float_to_bits-x : goal.float_to_bits-x
-float_to_bits-x c = let s = c in number c.args.a c.requires.0
+float_to_bits-x c = number c.args.a c.requires.0
 
 pub float_to_bits-y : goal.float_to_bits-y
-float_to_bits-y c = let s = c in number c.args.b c.requires.1
+float_to_bits-y c = number c.args.b c.requires.1
 
 pub float_to_bits-z : goal.float_to_bits-z
-float_to_bits-z c = let s = c in number c.args.c c.requires.2
+float_to_bits-z c = number c.args.c c.requires.2
 
 pub returns : goal.returns
 unfolding quick_of
 returns c =
-    let k = c in
-    let s = c in
     let a = c.args in
     let h = c.upper-high.ensures in
     let l = c.lower-low.ensures in

@@ -27,7 +27,6 @@ loose w h = omega arith
 
 pub magnitude_bits-requires : goal.magnitude_bits-requires
 magnitude_bits-requires c =
-    let a = c in
     let u = c.lift-up.result in
     let x = (c.args.place + 62 - u) / 2 + 207 in
     let h : x < 1000 = half_lt c.args.place u c.requires.2 in (
@@ -37,7 +36,6 @@ magnitude_bits-requires c =
 
 pub returns : goal.returns
 returns c =
-    let a = c in
     let l = c.lift-up in
     let u = l.result in
     let p = c.args.place in

@@ -35,7 +35,6 @@ returns-then-samples-gt-BLOCK_MOST c =
 pub returns-then-place-samples : goal.returns-then-place-samples
 unfolding first_of
 returns-then-place-samples c =
-    let k = c in
     let xs = c.args.samples.now in
     let e = c.clean-place.ensures in
     let bad : clean_of xs < length xs = (let t = c.if-place-samples.true in omega arith) in
@@ -43,7 +42,6 @@ returns-then-place-samples c =
 
 pub overflow_add-received : goal.overflow_add-received
 overflow_add-received c =
-    let k = c in
     let few = c.if-samples-gt-BLOCK_MOST.false in
     let so_far = c.requires in
     record { fits = omega (arith, few, so_far) }
@@ -51,7 +49,6 @@ overflow_add-received c =
 pub returns-then-received-samples-gt-RECEIVED_MOST : goal.returns-then-received-samples-gt-RECEIVED_MOST
 unfolding first_of received_in
 returns-then-received-samples-gt-RECEIVED_MOST c =
-    let k = c in
     let s = c.args in
     let past : received_most < s.received + length s.samples.now = omega (arith, c.if-received-samples-gt-RECEIVED_MOST.true) in
     simp (short (goal.at.returns-then-received-samples-gt-RECEIVED_MOST c).Else-samples-gt-BLOCK_MOST, clean (goal.at.returns-then-received-samples-gt-RECEIVED_MOST c).Else-place-samples, lt-leb (s.received + length s.samples.now) received_most past)
@@ -59,7 +56,6 @@ returns-then-received-samples-gt-RECEIVED_MOST c =
 pub returns : goal.returns
 unfolding first_of received_in
 returns c =
-    let k = c in
     let s = c.args in
     let within : s.received + length s.samples.now ≤ received_most = omega (arith, c.if-received-samples-gt-RECEIVED_MOST.false) in
     simp (short (goal.at.returns c).Else-samples-gt-BLOCK_MOST, clean (goal.at.returns c).Else-place-samples, le-leb (s.received + length s.samples.now) received_most within)

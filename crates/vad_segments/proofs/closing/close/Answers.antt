@@ -7,11 +7,10 @@ use borrow.Author.Rules.{rules}
 use Rattle.vad_segments.proofs.closing.close.Goals as goal
 
 pub finalize_segment-requires : goal.finalize_segment-requires
-finalize_segment-requires c = let s = c in (c.requires.0, rw c.in-Open.is at c.requires.1.3)
+finalize_segment-requires c = (c.requires.0, rw c.in-Open.is at c.requires.1.3)
 
 pub book-requires : goal.book-requires
 book-requires c =
-    let s = c in
     let room = rw c.in-Open.is at c.requires.1.3 in
     let ends = finalized_ends c.args.rules c.args.limit c.args.track.last_segment_end c.in-Open.segment positions_most counts_most room c.requires.1.0 c.requires.2 in
     (c.requires.1.1, c.requires.1.2, rw c.finalize_segment.ensures (omega (arith, ends.1)))

@@ -11,7 +11,6 @@ use Rattle.vad_state.proofs.arrays.clear.Goals as goal
 
 pub loop-i-preserved : goal.loop-i-preserved
 loop-i-preserved c =
-    let l = c in
     let to = c.loop-i.to in
     let i = c.loop-i.i in
     let n = length c.args.to.now in
@@ -21,8 +20,6 @@ loop-i-preserved c =
 
 pub returns : goal.returns
 returns c =
-    let l = c in
-    let s = c in
     let n = length c.args.to.now in
     let over : n ≤ c.loop-i.i = omega arith in
     sym (clear_end c.loop-i.to c.loop-i.i n zero32 over) ∙ c.loop-i.invariant.2 ∙ cleared c.args.to.now c.args.from c.requires

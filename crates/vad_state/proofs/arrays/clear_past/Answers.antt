@@ -8,6 +8,5 @@ use Rattle.vad_state.proofs.arrays.clear_past.Goals as goal
 
 pub returns : goal.returns
 returns c =
-    let s = c in
     let long : length c.args.to.now ≡ frame_most = search rules in
     c.clear.ensures ∙ ap (λ (k : ℕ). filled_of k (take c.args.n c.args.to.now)) long

@@ -8,6 +8,5 @@ use Rattle.vad_state.proofs.arrays.fill_warmup.Goals as goal
 
 pub returns : goal.returns
 returns c =
-    let s = c in
     let long : length c.args.to.now ≡ warmup_most = search rules in
     c.fill_slice.ensures ∙ ap (λ (k : ℕ). filled_of k c.args.energies.now) long

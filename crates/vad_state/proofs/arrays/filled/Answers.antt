@@ -5,4 +5,4 @@ use Rattle.vad_state.proofs.Fills.{put_filled}
 use Rattle.vad_state.proofs.arrays.filled.Goals as goal
 
 pub returns : goal.returns
-returns c = let s = c in c.put.ensures ∙ put_filled frame_most c.args.numbers.now c.requires
+returns c = c.put.ensures ∙ put_filled frame_most c.args.numbers.now c.requires

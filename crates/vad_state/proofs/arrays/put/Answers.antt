@@ -10,7 +10,6 @@ use Rattle.vad_state.proofs.arrays.put.Goals as goal
 
 pub loop-i-preserved : goal.loop-i-preserved
 loop-i-preserved c =
-    let l = c in
     let xs = c.args.numbers.now in
     let i = c.loop-i.i in
     let to = c.loop-i.to in
@@ -20,7 +19,6 @@ loop-i-preserved c =
 
 pub returns : goal.returns
 returns c =
-    let l = c in
     let xs = c.args.numbers.now in
     let over : length xs ≤ c.loop-i.i = omega arith in
     sym (put_end c.loop-i.to xs c.loop-i.i c.loop-i.i over) ∙ c.loop-i.invariant.2
