@@ -1,5 +1,5 @@
 -- What the bits of a float say: its sign, its significand and its place, and that its value is these.
-use Rattle.std.proofs.Common.{◌≡◌, ℕ, zero, suc, ◌+◌, ◌-◌, ◌*◌, ◌%◌, ◌^◌, ◌<◌, ◌≤◌, Bool, true, false, cond, not, T, eqb, ◌⊎◌, ℤ, sym, refl, ap, ◌∙◌, subst, ap₂, inl, inr, le_of_suc-le-suc, lt_irrefl, mod-lt, mul_assoc, div-lt_iff_lt-mul, add_comm, pow-suc, mul_right_comm, arith, pow_pos, eq-eqb, ne_eqb, eqb-true}
+use Rattle.std.proofs.Common.{◌≡◌, ℕ, zero, suc, ◌+◌, ◌*◌, ◌%◌, ◌^◌, ◌<◌, ◌≤◌, Bool, true, false, cond, not, T, eqb, ◌⊎◌, ℤ, sym, refl, ap, ◌∙◌, subst, ap₂, inl, inr, le_of_suc-le-suc, lt_irrefl, mod-lt, mul_assoc, div-lt_iff_lt-mul, add_comm, pow-suc, mul_right_comm, arith, pow_pos, eq-eqb, ne_eqb, eqb-true}
 use lib.Arith.{lt_of_le-ne}
 use lib.Ieee.{Float, nan, inf, fin, binary32, up, down, odd, of_fields, of_bits, to_bits, is_nan, fits}
 use lib.Ieee.Bits.{of_bits-to_bits}

@@ -1,5 +1,5 @@
 -- The integer root, and what it says of the rounded root.
-use Rattle.std.proofs.Common.{◌≡◌, ℕ, zero, suc, ◌+◌, ◌-◌, ◌*◌, ◌^◌, ◌<◌, ◌≤◌, Bool, true, false, cond, not, T, eqb, leb, sym, ap, ◌∙◌, subst, ap₂, inl, inr, zero-le, le_trans, le_of_eq, lt_of_lt_of_le, lt_of_le_of_lt, le_of_lt, add_assoc, lt_irrefl, mul-le-mul_right, mul_assoc, add-mul, mul-le-mul, le_antisymm, mul-le-mul_left, mul-lt-mul_of_pos_right, mul-pos, one-mul, lt_of_not-le, zero-add, mul-one, mul-add, not-le_of_lt, arith, leb→le, pow_pos, pow-add, eq-eqb, ne_eqb}
+use Rattle.std.proofs.Common.{◌≡◌, ℕ, zero, suc, ◌+◌, ◌*◌, ◌^◌, ◌<◌, ◌≤◌, Bool, true, false, cond, not, T, eqb, leb, sym, ap, ◌∙◌, subst, ap₂, inl, inr, zero-le, le_trans, le_of_eq, lt_of_lt_of_le, lt_of_le_of_lt, le_of_lt, add_assoc, lt_irrefl, mul-le-mul_right, mul_assoc, add-mul, mul-le-mul, le_antisymm, mul-le-mul_left, mul-lt-mul_of_pos_right, mul-pos, one-mul, lt_of_not-le, zero-add, mul-one, mul-add, not-le_of_lt, arith, leb→le, pow_pos, pow-add, eq-eqb, ne_eqb}
 use native.Mathlib.Nat.{mul-mul-mul_comm, eq_of_mul-eq-mul_right, two-pow-succ}
 use lib.Dec.{nleb→lt}
 use lib.Arith.{lt_of_le-ne}

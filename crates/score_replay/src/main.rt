@@ -3,40 +3,44 @@
 
 #![tactic(auto)]
 
-ghost use Rattle.std.specs.Prelude.{◌<◌};
+ghost use Rattle.std.specs.Prelude.{◌≤◌, IfOk};
 
-use libc::{STDIN_FILENO, STDOUT_FILENO};
+use std::io;
+use std::io::Read;
 
-fn wide(b: u8) -> u32
-    ensures { result < 256 }
+// Fills the bytes as far as the input goes, and answers how far.
+fn fill<R: Read>(input: &mut R, bytes: &mut [u8; 4]) -> io::Result<usize>
+    ensures { IfOk result (λ n. n ≤ 4) }
 {
-    b as u32
+    let mut at: usize = 0;
+    for _ in 0..4 {
+        at += input.read(&mut bytes[at..])?;
+    }
+    Ok(at)
 }
 
-fn word(b: [u8; 4]) -> u32 {
-    wide(b[0]) + wide(b[1]) * 0x100 + wide(b[2]) * 0x1_0000 + wide(b[3]) * 0x100_0000
-}
-
-fn print_score(bits: u32) -> bool {
-    io::print_hex(STDOUT_FILENO, bits as u64, 8);
-    io::write_all(STDOUT_FILENO, b" ");
-    io::print_decimal(STDOUT_FILENO, score::score(float::from_bits(bits)));
-    io::write_all(STDOUT_FILENO, b"\n")
+fn print_score(rt: &impl Print, bits: u32) -> io::Result<()> {
+    let score = score::score(float::from_bits(bits));
+    println!(rt; "{bits:08x} {score}")
 }
 
 // One ratio; false where the input has ended.
-fn replay_one() -> bool {
+fn replay_one<R: Read>(rt: &impl Print, input: &mut R) -> io::Result<bool> {
     let mut bytes = [0u8; 4];
-    if io::read_full(STDIN_FILENO, &mut bytes) < 4 {
-        return false;
+    if fill(input, &mut bytes)? < 4 {
+        return Ok(false);
     }
-    print_score(word(bytes))
+    print_score(rt, u32::from_le_bytes(bytes))?;
+    Ok(true)
 }
 
-// A proved loop has to end, so it counts down from more ratios than any list has.
-fn main() {
-    let mut turns = u64::MAX;
-    while turns > 0 && replay_one() {
-        turns -= 1;
+// A proved loop has to end, so it counts more ratios than any list has.
+fn main(rt: HostRuntime) -> io::Result<()> {
+    let mut input = rt.reader();
+    for _ in 0..u64::MAX {
+        if !replay_one(&rt, &mut input)? {
+            break;
+        }
     }
+    Ok(())
 }

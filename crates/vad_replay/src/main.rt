@@ -4,11 +4,12 @@
 
 #![tactic(auto)]
 
-ghost use Rattle.std.specs.Prelude.{◌≤◌, ◌<◌, ◌*◌};
+ghost use Rattle.std.specs.Prelude.{◌≤◌, ◌*◌, IfOk};
 ghost use Rattle.vad_row.specs.Rows.{row_width};
 
-use libc::{STDIN_FILENO, STDOUT_FILENO};
 use refusals::Refusal;
+use std::io;
+use std::io::Read;
 use vad_call::{Detected, Tally};
 use vad_config::VadConfig;
 use vad_detector::SegmentReading;
@@ -20,28 +21,25 @@ const ROWS_MOST: usize = 64;
 
 const ROOM: usize = ROWS_MOST * ROW_FIELDS;
 
-fn wide(b: u8) -> u32
-    ensures { result < 256 }
-{
-    b as u32
-}
-
 // The next word; 0 where the input has ended.
-fn word() -> u32 {
-    let mut b = [0u8; 4];
-    io::read_full(STDIN_FILENO, &mut b);
-    wide(b[0]) + wide(b[1]) * 0x100 + wide(b[2]) * 0x1_0000 + wide(b[3]) * 0x100_0000
+fn word<R: Read>(input: &mut R) -> io::Result<u32> {
+    let mut bytes = [0u8; 4];
+    let mut at: usize = 0;
+    for _ in 0..4 {
+        at += input.read(&mut bytes[at..])?;
+    }
+    Ok(u32::from_le_bytes(bytes))
 }
 
 // A number of two words, the low one first.
-fn long() -> u64 {
-    let low = word() as u64;
-    let high = word() as u64;
-    high * 0x1_0000_0000 + low
+fn long<R: Read>(input: &mut R) -> io::Result<u64> {
+    let low = word(input)? as u64;
+    let high = word(input)? as u64;
+    Ok(high * 0x1_0000_0000 + low)
 }
 
-fn number() -> f32 {
-    float::from_bits(word())
+fn number<R: Read>(input: &mut R) -> io::Result<f32> {
+    Ok(float::from_bits(word(input)?))
 }
 
 fn lesser(n: usize, most: usize) -> usize
@@ -54,217 +52,201 @@ fn lesser(n: usize, most: usize) -> usize
 }
 
 // A word, but no more than the room for it.
-fn count(most: usize) -> usize
-    ensures { result ≤ most }
+fn count<R: Read>(input: &mut R, most: usize) -> io::Result<usize>
+    ensures { IfOk result (λ n. n ≤ most) }
 {
-    lesser(word() as usize, most)
+    Ok(lesser(word(input)? as usize, most))
 }
 
 // The next n numbers, and zeros.
-fn numbers(n: usize) -> [f32; 2049]
+fn numbers<R: Read>(input: &mut R, n: usize) -> io::Result<[f32; 2049]>
     requires { n ≤ 2049 }
 {
     let mut to = [0.0; 2049];
-    let mut i = 0;
-    while i < n {
-        to[i] = number();
-        i += 1;
+    for i in 0..n {
+        to[i] = number(input)?;
     }
-    to
+    Ok(to)
 }
 
-fn config() -> VadConfig {
-    VadConfig {
-        sample_rate: word(),
-        frame_duration: long(),
-        frame_overlap: number(),
-        has_pre_emphasis: word() != 0,
-        pre_emphasis: number(),
-        activation_ratio: number(),
-        release_ratio: number(),
-        min_speech_energy: number(),
-        noise_smoothing: number(),
-        energy_floor: number(),
-        hangover_frames: long(),
-        speech_padding: long(),
-        min_speech_frames: long(),
-        stream_start_time: long(),
-    }
+fn config<R: Read>(input: &mut R) -> io::Result<VadConfig> {
+    Ok(VadConfig {
+        sample_rate: word(input)?,
+        frame_duration: long(input)?,
+        frame_overlap: number(input)?,
+        has_pre_emphasis: word(input)? != 0,
+        pre_emphasis: number(input)?,
+        activation_ratio: number(input)?,
+        release_ratio: number(input)?,
+        min_speech_energy: number(input)?,
+        noise_smoothing: number(input)?,
+        energy_floor: number(input)?,
+        hangover_frames: long(input)?,
+        speech_padding: long(input)?,
+        min_speech_frames: long(input)?,
+        stream_start_time: long(input)?,
+    })
 }
 
-fn print(text: &[u8]) {
-    io::write_all(STDOUT_FILENO, text);
-}
-
-fn print_byte(b: u8) {
-    print(&[b]);
-}
-
-fn print_number(n: u64) {
-    print_byte(b' ');
-    io::print_decimal(STDOUT_FILENO, n);
-}
-
-fn print_last(n: u64) {
-    print_number(n);
-    print_byte(b'\n');
-}
-
-fn print_bits(n: u64) {
-    print_byte(b' ');
-    io::print_hex(STDOUT_FILENO, n, 8);
-}
-
-fn print_refusal(refusal: Refusal) {
-    print(b"refused");
-    print_number(refusal.number as u64);
-    print_last(refusal.carries as u64);
+fn print_refusal(rt: &impl Print, refusal: Refusal) -> io::Result<()> {
+    println!(rt; "refused {} {}", refusal.number, refusal.carries)
 }
 
 // Frames, loud, quiet, the floor's bits.
-fn print_tally(tally: Tally) {
-    print(b"heard");
-    print_number(tally.frames as u64);
-    print_number(tally.loud as u64);
-    print_number(tally.quiet as u64);
-    print_bits(float::to_bits(tally.noise_floor) as u64);
+fn print_tally(rt: &impl Print, tally: Tally) -> io::Result<()> {
+    let bits = float::to_bits(tally.noise_floor);
+    print!(rt; "heard {} {} {} {bits:08x}", tally.frames, tally.loud, tally.quiet)
 }
 
 // The open segment's start, which is - where none is open.
-fn print_segment(segment: SegmentReading) {
+fn print_segment(rt: &impl Print, segment: SegmentReading) -> io::Result<()> {
     if segment.is_open {
-        print_last(segment.start_sample);
-        return;
+        return println!(rt; " {}", segment.start_sample);
     }
-    print(b" -\n");
+    println!(rt; " -")
 }
 
-fn print_positions(detector: VadDetector) {
-    print_number(vad_detector::undecided_from(detector).value);
-    print_number(vad_detector::analyzed_until(detector).value);
-    print_segment(vad_detector::active_segment_start_sample(detector));
+fn print_positions(rt: &impl Print, detector: VadDetector) -> io::Result<()> {
+    let undecided = vad_detector::undecided_from(detector).value;
+    let analyzed = vad_detector::analyzed_until(detector).value;
+    print!(rt; " {undecided} {analyzed}")?;
+    print_segment(rt, vad_detector::active_segment_start_sample(detector))
 }
 
 // Of a row's seven numbers start and end time, loud frames, and the mean energy's bits: what the original tells of a segment.
-fn print_column(column: usize, n: u64) {
+fn print_column(rt: &impl Print, column: usize, n: u64) -> io::Result<()> {
     match column {
-        0 => print(b"row"),
-        2 | 3 | 5 => print_number(n),
-        6 => {
-            print_bits(n);
-            print_byte(b'\n');
-        }
-        _ => {}
+        0 => print!(rt; "row"),
+        2 | 3 | 5 => print!(rt; " {n}"),
+        6 => println!(rt; " {n:08x}"),
+        _ => Ok(()),
     }
 }
 
-fn print_rows(rows: &[u64; ROOM], n: usize)
+fn print_rows(rt: &impl Print, rows: &[u64; ROOM], n: usize) -> io::Result<()>
     requires { n ≤ 64 * row_width }
 {
-    let mut i = 0;
-    while i < n {
-        print_column(i % ROW_FIELDS, rows[i]);
-        i += 1;
+    for i in 0..n {
+        print_column(rt, i % ROW_FIELDS, rows[i])?;
     }
+    Ok(())
 }
 
-fn print_answer(answer: Detected, rows: &[u64; ROOM]) {
+fn print_answer(rt: &impl Print, answer: Detected, rows: &[u64; ROOM]) -> io::Result<()> {
     let refusal = answer.refusal;
     if refusal.number != 0 {
-        print_refusal(refusal);
-        return;
+        return print_refusal(rt, refusal);
     }
     let tally = answer.tally;
-    print_tally(tally);
-    let detector = answer.detector;
-    print_positions(detector);
-    print_rows(rows, lesser(tally.rows, ROWS_MOST) * ROW_FIELDS);
+    print_tally(rt, tally)?;
+    print_positions(rt, answer.detector)?;
+    print_rows(rt, rows, lesser(tally.rows, ROWS_MOST) * ROW_FIELDS)
 }
 
 // Settings, rise weight, window.
-fn opening() -> VadDetector {
-    let config = config();
-    let rise = number();
-    let n = count(2049);
-    let window = numbers(n);
+fn opening<R: Read>(rt: &impl Print, input: &mut R) -> io::Result<VadDetector> {
+    let config = config(input)?;
+    let rise = number(input)?;
+    let n = count(input, 2049)?;
+    let window = numbers(input, n)?;
     let opened = vad_detector::open(config, &window[0..n], rise);
-    print(b"opened");
-    print_last(opened.refusal as u64);
-    opened.detector
+    println!(rt; "opened {}", opened.refusal)?;
+    Ok(opened.detector)
 }
 
 // The numbers lent for rows, and the block.
-fn detecting(detector: VadDetector) -> VadDetector {
-    let room = count(ROOM);
-    let n = count(1040);
-    let samples = numbers(n);
+fn detecting<R: Read>(
+    rt: &impl Print,
+    input: &mut R,
+    detector: VadDetector,
+) -> io::Result<VadDetector> {
+    let room = count(input, ROOM)?;
+    let n = count(input, 1040)?;
+    let samples = numbers(input, n)?;
     let mut rows = [0; ROOM];
     let answer = vad_detector::detect(detector, &samples[0..n], &mut rows[0..room]);
-    print_answer(answer, &rows);
-    answer.detector
+    print_answer(rt, answer, &rows)?;
+    Ok(answer.detector)
 }
 
-fn flushing(detector: VadDetector) -> VadDetector {
-    let room = count(ROOM);
+fn flushing<R: Read>(
+    rt: &impl Print,
+    input: &mut R,
+    detector: VadDetector,
+) -> io::Result<VadDetector> {
+    let room = count(input, ROOM)?;
     let mut rows = [0; ROOM];
     let answer = vad_detector::flush(detector, &mut rows[0..room]);
-    print_answer(answer, &rows);
-    answer.detector
+    print_answer(rt, answer, &rows)?;
+    Ok(answer.detector)
 }
 
-fn resetting(detector: VadDetector) -> VadDetector {
-    let reset = vad_detector::reset(detector, long());
-    print(b"reset");
-    print_last(reset.refusal as u64);
-    reset.detector
+fn resetting<R: Read>(
+    rt: &impl Print,
+    input: &mut R,
+    detector: VadDetector,
+) -> io::Result<VadDetector> {
+    let reset = vad_detector::reset(detector, long(input)?);
+    println!(rt; "reset {}", reset.refusal)?;
+    Ok(reset.detector)
 }
 
 // The block heard that many times.
 fn paced(
     mut detector: VadDetector,
-    mut times: u32,
+    times: u32,
     samples: &[f32],
     rows: &mut [u64],
 ) -> VadDetector {
-    while 0 < times {
+    for _ in 0..times {
         detector = vad_detector::detect(detector, samples, rows).detector;
-        times -= 1;
     }
     detector
 }
 
 // How many times, and the block; no row is printed. So calls can be timed (tools/pace).
-fn pacing(mut detector: VadDetector) -> VadDetector {
-    let times = word();
-    let n = count(1040);
-    let samples = numbers(n);
+fn pacing<R: Read>(
+    rt: &impl Print,
+    input: &mut R,
+    mut detector: VadDetector,
+) -> io::Result<VadDetector> {
+    let times = word(input)?;
+    let n = count(input, 1040)?;
+    let samples = numbers(input, n)?;
     let mut rows = [0; ROOM];
     detector = paced(detector, times, &samples[0..n], &mut rows);
-    print(b"paced");
-    print_positions(detector);
-    detector
+    print!(rt; "paced")?;
+    print_positions(rt, detector)?;
+    Ok(detector)
 }
 
 // A number that is no call's changes nothing.
-fn replay_one(call: u32, detector: VadDetector) -> VadDetector {
+fn replay_one<R: Read>(
+    rt: &impl Print,
+    input: &mut R,
+    call: u32,
+    detector: VadDetector,
+) -> io::Result<VadDetector> {
     match call {
-        1 => opening(),
-        2 => detecting(detector),
-        3 => flushing(detector),
-        4 => resetting(detector),
-        5 => pacing(detector),
-        _ => detector,
+        1 => opening(rt, input),
+        2 => detecting(rt, input, detector),
+        3 => flushing(rt, input, detector),
+        4 => resetting(rt, input, detector),
+        5 => pacing(rt, input, detector),
+        _ => Ok(detector),
     }
 }
 
-// A proved loop has to end, so it counts down from more calls than any list has.
-fn main() {
-    let mut detector = opening();
-    let mut turns = u64::MAX;
-    let mut call = word();
-    while turns > 0 && call > 0 {
-        detector = replay_one(call, detector);
-        call = word();
-        turns -= 1;
+// A proved loop has to end, so it counts more calls than any list has.
+fn main(rt: HostRuntime) -> io::Result<()> {
+    let mut input = rt.reader();
+    let mut detector = opening(&rt, &mut input)?;
+    for _ in 0..u64::MAX {
+        let call = word(&mut input)?;
+        if call == 0 {
+            break;
+        }
+        detector = replay_one(&rt, &mut input, call, detector)?;
     }
+    Ok(())
 }

@@ -1,4 +1,4 @@
-use Rattle.std.proofs.Common.{◌≡◌, ℕ, ◌%◌, ◌<◌, true, false, sym, refl, ◌∙◌, true≢false, arith, rules, lt-ltb}
+use Rattle.std.proofs.Common.{◌≡◌, ℕ, ◌%◌, ◌<◌, true, sym, refl, ◌∙◌, true≢false, arith, lt-ltb}
 use lib.Ieee.{Float, nan, inf, fin, binary32, of_bits, is_nan, div}
 use lib.Ieee.Bits.{nan_bits_is, nan_bits_above}
 use Rattle.float.proofs.Words.{no_nan}

@@ -1,4 +1,4 @@
-use Rattle.std.proofs.Common.{ℕ, not, eqb, ap, ◌∙◌, rules}
+use Rattle.std.proofs.Common.{ℕ, not, eqb, ap, ◌∙◌}
 use Rattle.float.specs.Inside.{field_of}
 use Rattle.float.proofs.Words.{T_of}
 use Rattle.float.proofs.Decode.{finite_says}

@@ -1,4 +1,4 @@
-use Rattle.std.proofs.Common.{◌≡◌, ◌*◌, true, false, sym, refl, ap, ◌∙◌, true≢false, rules}
+use Rattle.std.proofs.Common.{◌≡◌, ◌*◌, true, false, sym, refl, ap, ◌∙◌, true≢false}
 use lib.Ieee.{Float, nan, inf, fin, binary32, of_bits, div, ne, is_nan, unlike, up, down, sum}
 use Rattle.float.specs.Finite.{rounded, or_else}
 use Rattle.float.specs.Fused.{fused_of}

@@ -1,4 +1,4 @@
-use Rattle.std.proofs.Common.{◌≡◌, sym, ap, ◌∙◌, rules}
+use Rattle.std.proofs.Common.{◌≡◌, sym, ap, ◌∙◌}
 use Rattle.float.specs.Finite.{or_else}
 use Rattle.float.specs.declared.Rounded.TheVariants.{Finite}
 use Rattle.float.proofs.Words.{T_of}

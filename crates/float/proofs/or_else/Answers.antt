@@ -1,4 +1,4 @@
-use Rattle.std.proofs.Common.{sym, ap, rules}
+use Rattle.std.proofs.Common.{sym, ap}
 use Rattle.float.specs.Finite.{or_else}
 use Rattle.float.proofs.or_else.Goals as goal
 

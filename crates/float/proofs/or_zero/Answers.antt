@@ -1,5 +1,4 @@
 use lib.Ieee.{of_bits}
-use Rattle.std.proofs.Common.{rules}
 use Rattle.float.proofs.or_zero.Goals as goal
 
 pub returns : goal.returns

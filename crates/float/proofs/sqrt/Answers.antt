@@ -1,6 +1,6 @@
-use Rattle.std.proofs.Common.{◌≡◌, ℕ, ◌+◌, ◌-◌, ◌*◌, ◌^◌, ◌<◌, false, T, sym, ap, ◌∙◌, subst, ap₂, inl, inr, eq-zero-or-pos, rules}
+use Rattle.std.proofs.Common.{◌≡◌, ℕ, ◌+◌, ◌*◌, ◌^◌, ◌<◌, false, T, sym, ap, ◌∙◌, subst, ap₂, inl, inr, eq-zero-or-pos}
 use lib.Ieee.{Float, binary32, round, fits, to_bits}
-use Rattle.float.specs.Inside.{field_of, M}
+use Rattle.float.specs.Inside.{field_of}
 use Rattle.float.specs.Finite.{rounded}
 use Rattle.float.specs.Root.{twice_root}
 use Rattle.float.proofs.Words.{T_of}

@@ -1,4 +1,4 @@
-use Rattle.std.proofs.Common.{◌≡◌, true, sym, refl, ◌∙◌, true≢false, rules}
+use Rattle.std.proofs.Common.{◌≡◌, true, sym, refl, ◌∙◌, true≢false}
 use lib.Ieee.{Float, nan, inf, fin, binary32, is_nan, to_bits}
 use Rattle.float.proofs.Words.{differs, T-not-of}
 use Rattle.float.proofs.to_bits.Goals as goal

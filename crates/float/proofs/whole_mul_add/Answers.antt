@@ -1,4 +1,4 @@
-use Rattle.std.proofs.Common.{◌≡◌, ℕ, sym, ap, ◌∙◌, ap₂, rules}
+use Rattle.std.proofs.Common.{◌≡◌, ℕ, sym, ap, ◌∙◌, ap₂}
 use lib.Ieee.{Float, binary32, to_bits}
 use Rattle.float.specs.Inside.{field_of, fused_bits_of}
 use Rattle.float.proofs.Words.{T_of}

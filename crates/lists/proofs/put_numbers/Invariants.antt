@@ -7,7 +7,7 @@ abbrev pub invariant-loop-i : goal.invariant-loop-i
 invariant-loop-i l = record {
   within : l.i ≤ length l.numbers;
   long : length l.to ≡ length l.fn.to;
-  whole : sets l.to (l.at + l.i) (drop l.i l.numbers) ≡ sets l.fn.to l.at l.numbers
+  whole : sets l.to (l.at + l.i) (drop l.i l.numbers) ≡ sets l.fn.to l.at l.numbers;
 }
 
 abbrev pub decreases-loop-i : goal.decreases-loop-i

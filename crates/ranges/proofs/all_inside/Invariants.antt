@@ -1,10 +1,8 @@
-use mathlib.Core.Path.{◌≡◌, sym, ap, ◌∙◌}
-use mathlib.Core.Bool.{Bool, ◌&&◌}
-use Prim.Native.Nat.{◌+◌, ◌≤◌, ◌-◌}
+use mathlib.Core.Path.{◌≡◌}
+use mathlib.Core.Bool.{◌&&◌}
+use Prim.Native.Nat.{◌≤◌, ◌-◌}
 use lib.ListN.{length, drop}
-use borrow.Author.Rules.{rules}
 use Rattle.ranges.specs.Ranges.{all_within}
-use Rattle.ranges.proofs.Turns.{all_end, all_on}
 use Rattle.ranges.proofs.all_inside.Given as goal
 
 abbrev pub invariant-loop-k : goal.invariant-loop-k

@@ -1,7 +1,6 @@
 use Rattle.ranges.specs.Ranges.{clean_of}
 use Rattle.ranges.proofs.Laws.{all_leading}
 use mathlib.Core.Path.{sym, ◌∙◌}
-use borrow.Author.Rules.{rules}
 use Rattle.ranges.proofs.clean.Goals as goal
 
 pub returns-then-all_inside : goal.returns-then-all_inside

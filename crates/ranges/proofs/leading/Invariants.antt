@@ -1,11 +1,7 @@
-use mathlib.Core.Path.{◌≡◌, sym, ◌∙◌}
+use mathlib.Core.Path.{◌≡◌}
 use Prim.Native.Nat.{◌+◌, ◌≤◌, ◌-◌}
-use native.Mathlib.Omega.{arith}
 use lib.ListN.{length, drop}
-use borrow.Author.Rules.{rules}
-use borrow.Author.Tests.{not-true, not-false}
 use Rattle.ranges.specs.Ranges.{leading_of}
-use Rattle.ranges.proofs.Turns.{leading_step, leading_stop, leading_end}
 use Rattle.ranges.proofs.leading.Given as goal
 
 abbrev pub invariant-loop-i : goal.invariant-loop-i

@@ -1,11 +1,6 @@
-use Prim.Native.Nat.{◌≤◌, ◌+◌, ◌-◌, ◌<◌, ◌/◌}
-use native.Mathlib.Omega.{arith}
-use borrow.Author.Rules.{rules}
-use lib.ListN.{get_or}
+use Prim.Native.Nat.{◌≤◌, ◌-◌, ◌<◌}
 use lib.Ieee.{binary32, of_bits}
-use Rattle.score.specs.Score.{Threshold, score_of}
-use Rattle.score.proofs.Bits.{reaches_up}
-use Rattle.score.proofs.Laws.{score_le, score_ge, score_lt}
+use Rattle.score.specs.Score.{score_of}
 use Rattle.score.proofs.search.Given as goal
 
 abbrev pub invariant-loop-hi : goal.invariant-loop-hi

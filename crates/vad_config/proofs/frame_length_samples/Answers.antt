@@ -1,4 +1,4 @@
-use Rattle.std.proofs.Common.{◌≡◌, true, arith, rules}
+use Rattle.std.proofs.Common.{◌≡◌, true, arith}
 use Rattle.ranges.specs.Ranges.{rate_in}
 use Rattle.vad_config.specs.Domain.{duration_in}
 use Rattle.vad_config.specs.Lengths.{frame_samples, frame_length_of}

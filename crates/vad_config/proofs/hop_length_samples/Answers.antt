@@ -1,4 +1,3 @@
-use Rattle.std.proofs.Common.{rules}
 use Rattle.vad_config.specs.Lengths.{hop_length_of}
 use Rattle.vad_config.proofs.hop_length_samples.Goals as goal
 

@@ -1,4 +1,3 @@
-use Rattle.std.proofs.Common.{rules}
 use Rattle.vad_config.specs.Settings.{lengths_of, frame_of, hop_of, warmup_of, padding_of}
 use Rattle.vad_config.proofs.lengths_of.Goals as goal
 

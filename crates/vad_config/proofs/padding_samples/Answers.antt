@@ -1,5 +1,3 @@
-use lib.Ieee.{in_float}
-use Rattle.std.proofs.Common.{rules}
 use Rattle.vad_config.specs.Lengths.{padding_samples_of, seconds_of}
 use Rattle.vad_config.proofs.padding_samples.Goals as goal
 

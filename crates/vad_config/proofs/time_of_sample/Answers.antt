@@ -1,4 +1,4 @@
-use Rattle.std.proofs.Common.{◌≡◌, ◌/◌, ◌≤◌, true, arith, rules, le-leb}
+use Rattle.std.proofs.Common.{◌≡◌, ◌/◌, ◌≤◌, true, arith, le-leb}
 use borrow.Author.Tests.{lt-leb}
 use Rattle.ranges.specs.Ranges.{rate_in}
 use Rattle.vad_config.specs.Domain.{start_in, received_in}

@@ -1,4 +1,4 @@
-use Rattle.std.proofs.Common.{◌++◌, sym, ◌∙◌, rules}
+use Rattle.std.proofs.Common.{◌++◌, sym, ◌∙◌}
 use Rattle.vad_config.specs.Settings.{framing_refusals, level_refusals, limit_refusals, refusal_of}
 use Rattle.refusals.proofs.First.{first_found, number_of_lem}
 use Rattle.vad_config.proofs.First.{after_framing, after_levels}

@@ -1,4 +1,3 @@
-use Rattle.std.proofs.Common.{rules}
 use Rattle.vad_config.specs.Lengths.{warmup_frames_of}
 use Rattle.vad_config.proofs.warmup_frames.Goals as goal
 

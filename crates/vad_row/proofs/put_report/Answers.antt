@@ -1,7 +1,6 @@
 use mathlib.Core.Path.{refl, sym}
 use native.Mathlib.Nat.{add-zero}
 use Rattle.vad_row.proofs.Laws.{flat_none, flat_row}
-use borrow.Author.Rules.{rules}
 use Rattle.vad_row.proofs.put_report.Goals as goal
 
 pub put_row-requires : goal.put_row-requires

@@ -2,7 +2,6 @@ use mathlib.Core.Path.{ap, ◌∙◌}
 use native.Mathlib.Omega.{arith}
 use lib.ListN.{length}
 use lib.Seq.{sets}
-use borrow.Author.Rules.{rules}
 use Rattle.vad_row.proofs.Laws.{fields_length}
 use Rattle.vad_row.proofs.put_row.Goals as goal
 

@@ -1,5 +1,4 @@
 use Rattle.vad_row.specs.Rows.{reported}
-use borrow.Author.Rules.{rules}
 use Rattle.vad_row.proofs.rows_in.Goals as goal
 
 pub returns-in-NoRow : goal.returns-in-NoRow

@@ -1,5 +1,4 @@
 use native.Mathlib.Nat.{add-zero}
-use borrow.Author.Rules.{rules}
 use Rattle.vad_row.specs.Rows.{reported, talk_of}
 use Rattle.vad_row.proofs.talk_in.Goals as goal
 

@@ -1,5 +1,4 @@
 use native.Mathlib.Omega.{arith}
-use borrow.Author.Rules.{rules}
 use Rattle.vad_row.specs.Rows.{talk_in}
 use Rattle.vad_row.proofs.talk_of.Goals as goal
 

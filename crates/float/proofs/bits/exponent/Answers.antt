@@ -1,4 +1,4 @@
-use Rattle.std.proofs.Common.{◌≡◌, ℕ, ◌+◌, ◌<◌, ℤ, pos, ◌-ℤ◌, sym, ap, ◌∙◌, subst, arith, w32, SFits, to_z, rules}
+use Rattle.std.proofs.Common.{◌≡◌, ℕ, ◌+◌, ◌<◌, ℤ, pos, ◌-ℤ◌, sym, ap, ◌∙◌, subst, arith, w32, SFits, to_z}
 use lib.IntN.{sub_ℕ}
 use Rattle.float.proofs.Decode.{place_lt}
 use Rattle.float.proofs.Places.{held, sfits, cast_in, wider, small, fits_less, held_less, sub_sub, sub_same, at_zero}

@@ -1,8 +1,5 @@
-use Rattle.std.proofs.Common.{◌≡◌, ℕ, zero, suc, ◌+◌, ◌%◌, sym, refl, ◌∙◌, subst, rules}
+use Rattle.std.proofs.Common.{◌≡◌, ℕ, zero, suc, ◌+◌, ◌%◌, sym, refl, ◌∙◌, subst}
 use Rattle.float.specs.Inside.{field_of, significand_at}
-use Rattle.float.proofs.bits.significand.Reads as reads
-use Rattle.float.proofs.bits.significand.Lts as lts
-use Rattle.float.proofs.bits.field.Reads as field-reads
 use Rattle.float.proofs.bits.significand.Goals as goal
 
 plain : (x t : ℕ) → x ≡ 0 → t ≡ significand_at x t

@@ -1,4 +1,4 @@
-use Rattle.std.proofs.Common.{◌≡◌, ℕ, ◌-◌, ◌*◌, ◌%◌, ◌^◌, ◌<◌, ◌≤◌, Bool, true, false, ltb, ℤ, sym, ap, ◌∙◌, ap₂, le_of_lt, arith, rules, ltb-false, ltb-true}
+use Rattle.std.proofs.Common.{◌≡◌, ℕ, ◌-◌, ◌*◌, ◌%◌, ◌^◌, ◌<◌, ◌≤◌, Bool, true, false, ltb, ℤ, sym, ap, ◌∙◌, ap₂, le_of_lt, arith, ltb-false, ltb-true}
 use lib.IntN.{sub_ℕ}
 use lib.Signed.{lt_z}
 use lib.Ieee.{binary32, round}

@@ -1,4 +1,4 @@
-use Rattle.std.proofs.Common.{◌≡◌, ℕ, ◌+◌, ◌*◌, ◌^◌, ◌<◌, ◌≤◌, Bool, cond, not, T, eqb, leb, ◌⊎◌, ℤ, sym, ap, ◌∙◌, subst, ap₂, lt_of_lt_of_le, arith, lit<, lit≤, rules}
+use Rattle.std.proofs.Common.{◌≡◌, ℕ, ◌+◌, ◌*◌, ◌^◌, ◌<◌, ◌≤◌, Bool, cond, not, T, eqb, leb, ◌⊎◌, ℤ, sym, ap, ◌∙◌, subst, ap₂, lt_of_lt_of_le, arith, lit<, lit≤}
 use mathlib.Core.Bool.{beq}
 use lib.IntN.{sub_ℕ}
 use lib.Signed.{mag}

@@ -1,4 +1,4 @@
-use Rattle.std.proofs.Common.{◌≡◌, ℕ, ◌+◌, ◌-◌, ◌<◌, ℤ, ◌-ℤ◌, sym, ap, ◌∙◌, subst, ap₂, arith, w32, SFits}
+use Rattle.std.proofs.Common.{◌≡◌, ℕ, ◌+◌, ◌<◌, ℤ, ◌-ℤ◌, sym, ap, ◌∙◌, subst, ap₂, arith, w32, SFits}
 use lib.IntN.{sub_ℕ}
 use lib.Signed.{mag}
 use Rattle.float.proofs.Places.{held, wider, place_held, fits_less, held_less, mag_less, sub_sub, sub_same}

@@ -1,4 +1,4 @@
-use Rattle.std.proofs.Common.{◌≡◌, ℕ, ◌+◌, ◌*◌, ◌^◌, ◌≤◌, ap, ◌∙◌, le_trans, le_of_eq, arith, rules}
+use Rattle.std.proofs.Common.{◌≡◌, ℕ, ◌+◌, ◌*◌, ◌^◌, ◌≤◌, ap, ◌∙◌, le_trans, le_of_eq, arith}
 use lib.IntN.{sub_ℕ}
 use lib.Ieee.{binary32, round}
 use Rattle.float.specs.Finite.{rounded}

@@ -1,4 +1,4 @@
-use Rattle.std.proofs.Common.{◌≡◌, ℕ, ◌+◌, ◌-◌, ◌<◌, Bool, cond, eqb, ℤ, pos, negsuc, ◌+ℤ◌, ◌-ℤ◌, sym, ap, ◌∙◌, subst, ap₂, arith, w32, SFits, eq-eqb, ne_eqb}
+use Rattle.std.proofs.Common.{◌≡◌, ℕ, ◌+◌, ◌<◌, Bool, cond, eqb, ℤ, pos, negsuc, ◌+ℤ◌, ◌-ℤ◌, sym, ap, ◌∙◌, subst, ap₂, arith, w32, SFits, eq-eqb, ne_eqb}
 use lib.IntN.{sub_ℕ}
 use lib.Signed.{mag}
 use Rattle.float.proofs.Places.{held, back', wider, fits_less, held_less, fits_plus, held_plus, mag_plus, sub_add, sub_sub, sub_same}

@@ -1,4 +1,4 @@
-use Rattle.std.proofs.Common.{ℕ, ◌+◌, ◌-◌, ◌*◌, ◌^◌, ◌≤◌, Bool, true, false, cond, ltb, ◌∙◌, ap₂, le_trans, le_of_eq, lt_of_le_of_lt, arith, rules}
+use Rattle.std.proofs.Common.{ℕ, ◌+◌, ◌-◌, ◌*◌, ◌^◌, ◌≤◌, Bool, true, false, cond, ltb, ◌∙◌, ap₂, le_trans, le_of_eq, lt_of_le_of_lt, arith}
 use mathlib.Core.Bool.{beq}
 use lib.Ieee.{binary32, round}
 use Rattle.float.specs.Inside.{mag_of}
@@ -15,11 +15,10 @@ mag_le s x t y = go (beq s t) (ltb x y) x y
     go false false x y = omega arith
 
 pub magnitude_bits-bits-requires : goal.magnitude_bits-bits-requires
-magnitude_bits-bits-requires c =
-    (
-      lt_of_le_of_lt (le_trans (le_of_eq c.sum_size.ensures) (mag_le c.args.s c.args.x c.args.t c.args.y)) c.requires.0,
-      place_small c.args.e c.requires.1,
-    )
+magnitude_bits-bits-requires c = (
+  lt_of_le_of_lt (le_trans (le_of_eq c.sum_size.ensures) (mag_le c.args.s c.args.x c.args.t c.args.y)) c.requires.0,
+  place_small c.args.e c.requires.1,
+)
 
 pub returns : goal.returns
 returns c = λ i p.

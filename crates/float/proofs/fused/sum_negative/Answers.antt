@@ -1,4 +1,4 @@
-use Rattle.std.proofs.Common.{◌≡◌, ◌-◌, Bool, true, false, ◌&&◌, refl, le-ltb, lt-ltb}
+use Rattle.std.proofs.Common.{◌≡◌, Bool, true, false, ◌&&◌, refl, le-ltb, lt-ltb}
 use Rattle.float.proofs.fused.sum_negative.Goals as goal
 
 and_true : (s : Bool) → s ≡ (s && true)

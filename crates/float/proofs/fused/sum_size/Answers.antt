@@ -1,4 +1,4 @@
-use Rattle.std.proofs.Common.{◌-◌, rules, le-ltb, lt-ltb}
+use Rattle.std.proofs.Common.{le-ltb, lt-ltb}
 use Rattle.float.proofs.fused.sum_size.Goals as goal
 
 pub returns-then-s-t : goal.returns-then-s-t

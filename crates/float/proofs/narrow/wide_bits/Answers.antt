@@ -1,4 +1,4 @@
-use Rattle.std.proofs.Common.{◌≡◌, false, not, ◌&&◌, T, sym, refl, ◌∙◌, inl, inr, rules}
+use Rattle.std.proofs.Common.{◌≡◌, false, not, ◌&&◌, T, sym, refl, ◌∙◌, inl, inr}
 use lib.Ieee.{Float, binary32, binary64, add, mul, ne, fits, is_nan}
 use lib.Ieee.Fits.{and_i, fits_widens}
 use Rattle.float.proofs.Words.{differs, T-not-of}

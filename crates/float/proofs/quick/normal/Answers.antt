@@ -1,4 +1,3 @@
-use Rattle.std.proofs.Common.{rules}
 use Rattle.float.specs.Settled.{normal_size}
 use Rattle.float.proofs.quick.normal.Goals as goal
 

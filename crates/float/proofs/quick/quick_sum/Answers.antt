@@ -1,4 +1,4 @@
-use Rattle.std.proofs.Common.{ℕ, Bool, sym, ap, ◌∙◌, ap₂, rules}
+use Rattle.std.proofs.Common.{ℕ, Bool, sym, ap, ◌∙◌, ap₂}
 use lib.Ieee.{Float}
 use Rattle.float.specs.declared.Rounded.TheVariants.{Finite}
 use Rattle.float.specs.Settled.{evened_of, settled_by, quick_of}

@@ -1,4 +1,4 @@
-use Rattle.std.proofs.Common.{◌&&◌, ◌||◌, ◌∙◌, ap₂, rules}
+use Rattle.std.proofs.Common.{◌&&◌, ◌||◌, ◌∙◌, ap₂}
 use Rattle.float.specs.Settled.{settled_by}
 use Rattle.float.proofs.quick.settles.Goals as goal
 

@@ -1,4 +1,4 @@
-use Rattle.std.proofs.Common.{◌≡◌, ℕ, ◌+◌, ◌-◌, ◌*◌, ◌/◌, ◌%◌, ◌^◌, ◌<◌, ◌≤◌, false, sym, ap, ◌∙◌, le_trans, lt_of_lt_of_le, mod-eq_of_lt, mul_assoc, arith, lit<, lit≤, pow-add, rules}
+use Rattle.std.proofs.Common.{◌≡◌, ℕ, ◌+◌, ◌-◌, ◌*◌, ◌/◌, ◌%◌, ◌^◌, ◌<◌, ◌≤◌, false, sym, ap, ◌∙◌, le_trans, lt_of_lt_of_le, mod-eq_of_lt, mul_assoc, arith, lit<, lit≤, pow-add}
 use lib.Ieee.{binary32, round}
 use Rattle.float.specs.Finite.{rounded}
 use Rattle.float.specs.Root.{twice_root}

@@ -1,4 +1,4 @@
-use Rattle.std.proofs.Common.{◌≡◌, ℕ, ◌+◌, ◌-◌, ◌<◌, ℤ, pos, ◌+ℤ◌, ◌-ℤ◌, sym, ap, ◌∙◌, subst, ap₂, arith, w32, SFits, to_z, rules}
+use Rattle.std.proofs.Common.{◌≡◌, ℕ, ◌+◌, ◌<◌, ℤ, pos, ◌+ℤ◌, ◌-ℤ◌, sym, ap, ◌∙◌, subst, ap₂, arith, w32, SFits, to_z}
 use lib.IntN.{sub_ℕ}
 use lib.Signed.{mag}
 use Rattle.float.proofs.Places.{held, back', cast_in, wider, small, fits_less, held_less, fits_plus, held_plus, mag_less, mag_plus, sub_add, sub_sub, sub_same, at_zero}

@@ -1,4 +1,4 @@
-use Rattle.std.proofs.Common.{◌≡◌, ℕ, suc, ◌+◌, ◌-◌, ◌*◌, ◌/◌, ◌%◌, ◌^◌, ◌<◌, ◌≤◌, ℤ, sym, ◌∙◌, subst, ap₂, inl, inr, le_trans, lt_of_lt_of_le, mod-eq_of_lt, eq-zero-or-pos, arith, lit≤, rules}
+use Rattle.std.proofs.Common.{◌≡◌, ℕ, suc, ◌+◌, ◌-◌, ◌*◌, ◌/◌, ◌%◌, ◌^◌, ◌<◌, ◌≤◌, ℤ, sym, ◌∙◌, subst, ap₂, inl, inr, le_trans, lt_of_lt_of_le, mod-eq_of_lt, eq-zero-or-pos, arith, lit≤}
 use Prim.Native.Nat.{compare}
 use lib.Pow.{shr_le}
 use lib.Count.{count_leading_zeros}

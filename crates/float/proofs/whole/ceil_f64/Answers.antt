@@ -1,4 +1,4 @@
-use Rattle.std.proofs.Common.{◌≡◌, ℕ, ◌+◌, ◌^◌, true, false, pos, ap, ◌∙◌, subst, arith, le→leb, rules}
+use Rattle.std.proofs.Common.{◌≡◌, ℕ, ◌+◌, ◌^◌, true, false, pos, ap, ◌∙◌, subst, arith, le→leb}
 use lib.Ieee.{binary64, of_int, of_bits, in_float, lt}
 use Rattle.float.proofs.Words.{T_of}
 use Rattle.float.proofs.Cuts.{cut_small, ceil_over, ceil_under, ceil_whole_part}

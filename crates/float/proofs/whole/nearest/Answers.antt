@@ -1,4 +1,4 @@
-use Rattle.std.proofs.Common.{ℕ, ◌*◌, ◌^◌, ◌<◌, ◌≤◌, false, sym, refl, ap, ◌∙◌, subst, arith, lit<, rules}
+use Rattle.std.proofs.Common.{ℕ, ◌*◌, ◌^◌, ◌<◌, ◌≤◌, false, sym, refl, ap, ◌∙◌, subst, arith, lit<}
 use lib.Ieee.{binary32, round}
 use Rattle.float.specs.Finite.{rounded, or_zero}
 use Rattle.float.proofs.Counts.{count_is, count_jammed, jam_small}

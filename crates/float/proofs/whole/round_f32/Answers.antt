@@ -1,4 +1,4 @@
-use Rattle.std.proofs.Common.{ap, ◌∙◌, rules}
+use Rattle.std.proofs.Common.{ap, ◌∙◌}
 use Rattle.float.specs.Whole.{round_of}
 use Rattle.float.proofs.whole.round_f32.Goals as goal
 

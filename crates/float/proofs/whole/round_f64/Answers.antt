@@ -1,4 +1,4 @@
-use Rattle.std.proofs.Common.{◌≡◌, ℕ, ◌+◌, ◌^◌, true, false, ap, ◌∙◌, subst, arith, le→leb, rules}
+use Rattle.std.proofs.Common.{◌≡◌, ℕ, ◌+◌, ◌^◌, true, false, ap, ◌∙◌, subst, arith, le→leb}
 use lib.Ieee.{of_bits, in_float, lt}
 use Rattle.float.proofs.Words.{T_of}
 use Rattle.float.proofs.Cuts.{middle, cut_small, round_over, round_under, round_whole_part}

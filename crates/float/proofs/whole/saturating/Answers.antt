@@ -1,4 +1,3 @@
-use Rattle.std.proofs.Common.{rules}
 use lib.Ieee.{of_bits, neg}
 use Rattle.float.proofs.Words.{T_of}
 use Rattle.float.proofs.Cuts.{cut_above, cut_below}

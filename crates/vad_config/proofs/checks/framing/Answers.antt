@@ -1,4 +1,4 @@
-use Rattle.std.proofs.Common.{◌≡◌, ◌∙◌, ⊎_elim, rules}
+use Rattle.std.proofs.Common.{◌≡◌, ◌∙◌}
 use Rattle.vad_config.specs.Settings.{framing_refusals}
 use Rattle.refusals.proofs.First.{from, here, skip, last, number_of_lem, denied}
 use Rattle.vad_config.proofs.checks.framing.Goals.{Else-not-duration_allowed, Else-not-in_unit, Else-not-rate_allowed}
@@ -38,5 +38,6 @@ pub returns : goal.returns
 unfolding framing_refusals
 returns c =
     number_of_lem (past-3 (goal.at.returns c).Else-not-in_unit ∙ last _ (elim c.else-config.branch [
-      else-config-via-then-config+else-not-in_unit-2 w ↦ simp (w.if-config.true, denied w.in_unit-then-config.ensures w.if-not-in_unit-2.false)
-    | else-config-via-else-config w ↦ simp w.if-config.false ]))
+      | else-config-via-then-config+else-not-in_unit-2 w ↦ simp (w.if-config.true, denied w.in_unit-then-config.ensures w.if-not-in_unit-2.false)
+      | else-config-via-else-config w ↦ simp w.if-config.false
+    ]))

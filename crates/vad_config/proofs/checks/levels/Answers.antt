@@ -1,4 +1,4 @@
-use Rattle.std.proofs.Common.{◌≡◌, ◌∙◌, rules, eq-eqb, ne_eqb}
+use Rattle.std.proofs.Common.{◌≡◌, ◌∙◌, eq-eqb, ne_eqb}
 use Rattle.vad_config.specs.Settings.{level_refusals}
 use Rattle.refusals.proofs.First.{from, here, skip, last, number_of_lem, told, denied}
 use Rattle.vad_config.proofs.checks.levels.Goals.{Else-nan_or_below, Else-not-in_unit, Else-not_finite_or_below, Else-not_finite_or_below-2, Else-not_finite_or_not_positive}

@@ -1,4 +1,4 @@
-use Rattle.std.proofs.Common.{◌≡◌, false, ltb, ◌∙◌, rules, le-ltb, lt-ltb}
+use Rattle.std.proofs.Common.{◌≡◌, false, ltb, ◌∙◌, le-ltb, lt-ltb}
 use Rattle.vad_config.specs.Settings.{limit_refusals, lengths_of}
 use Rattle.refusals.proofs.First.{from, here, skip, last, number_of_lem, denied}
 use Rattle.vad_config.proofs.checks.limits.Goals.{Else-config-gt10000, Else-config-gt10000-2, Else-config-gt1000000000, Else-worked_out-gt-FRAME_MOST, Else-worked_out-gt-WARMUP_MOST}

@@ -1,5 +1,4 @@
 use Rattle.refusals.proofs.First.{denied}
-use Rattle.std.proofs.Common.{rules}
 use Rattle.vad_config.proofs.checks.not_finite_or_below.Goals as goal
 
 pub returns-then-not-is_finite : goal.returns-then-not-is_finite
