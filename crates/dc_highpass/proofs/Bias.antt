@@ -6,7 +6,7 @@ use mathlib.Core.List.{List, [], ◌∷◌}
 use Prim.Native.Nat.{ℕ, suc, ◌+◌, ◌*◌, ◌≤◌, ◌<◌}
 use native.Mathlib.Nat.{add-zero, zero-add, le_refl, mul_left_comm, le_trans, le_of_eq, mul-le-mul_right, mul-one, mul_assoc}
 use native.Mathlib.Omega.{arith}
-use lib.Dec.{T, ltb, ltb→lt, lit≤, lit<}
+use lib.Dec.{T, ltb→lt, lit≤, lit<}
 use lib.IntN.{ℤ, pos, negsuc}
 use lib.ListN.{length}
 use lib.Ieee.{Float, nan, inf, fin, binary32, of_bits, of_int, fits, up, down, lt, neg, add, sub, mul, round}

@@ -1,5 +1,5 @@
 -- The filter of document 01: opening, a block, reset, the bias.
-use Rattle.std.specs.Prelude.{Bool, true, false, not, ◌&&◌, cond, List, [], ◌∷◌, ◌++◌, ℕ, ◌+◌, ◌-◌, ltb, eqb, length, drop, replicate, get_or, pos, Float}
+use Rattle.std.specs.Prelude.{Bool, true, false, not, ◌&&◌, cond, List, [], ◌∷◌, ◌++◌, ℕ, ◌-◌, ltb, eqb, length, drop, replicate, get_or, pos, Float}
 use Rattle.std.specs.Float.{nan, binary32}
 use Rattle.std.specs.Float.Ieee.{of_int, add, sub, mul, div, neg}
 use Rattle.std.specs.Float.Ieee.Scale.{finite}
@@ -12,7 +12,6 @@ use Rattle.ranges.specs.Sizes.{block_most}
 use Rattle.dc_state.specs.Biquad.{or_nan, stepped, heard}
 use Rattle.dc_state.specs.Settings.{refusal_of, sound_of}
 use Rattle.dc_state.specs.Operations.{centred_of}
-use Rattle.dc_state.specs.declared.biquad.Biquad.{Biquad}
 use Rattle.dc_state.specs.declared.biquad.BiquadCoefficients.{BiquadCoefficients}
 use Rattle.dc_state.specs.declared.biquad.BiquadState.{BiquadState}
 use Rattle.dc_state.specs.declared.HighpassOrder.{HighpassOrder}

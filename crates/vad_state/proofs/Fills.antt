@@ -1,13 +1,12 @@
 -- Numbers put into an array, and zeros past them. Assumes nothing.
 use mathlib.Core.Path.{◌≡◌, refl, sym, ap, ◌∙◌}
 use mathlib.Core.List.{List, [], ◌∷◌, ◌++◌, append_assoc, append-nil}
-use Prim.Native.Nat.{ℕ, zero, suc, ◌+◌, ◌-◌, ◌≤◌, ◌<◌}
-use native.Mathlib.Numerals.{add-one}
+use Prim.Native.Nat.{ℕ, zero, suc, ◌+◌, ◌-◌, ◌≤◌}
 use native.Mathlib.Omega.{arith}
-use lib.ListN.{length, take, drop, get_or, set, replicate, drop_of_length-le, length-append, length-drop, length-replicate}
-use lib.Seq.{sets, sets-eq, take-append_seam, drop-append_seam, drop-cons, drop-drop, drop-append-le, take_at, drop_at, take-length, drop-length, length-sets, length-take-le}
-use lib.Ieee.{Float, nan}
-use Rattle.lists.proofs.Stores.{sets_cons, sets_all}
+use lib.ListN.{length, take, drop, replicate, drop_of_length-le, length-append, length-drop, length-replicate}
+use lib.Seq.{sets, sets-eq, take-append_seam, drop-append_seam, drop-drop, drop-append-le, take_at, drop_at, take-length, drop-length, length-sets, length-take-le}
+use lib.Ieee.{Float}
+use Rattle.lists.proofs.Stores.{sets_all}
 use Rattle.float.specs.Numbers.{zero32}
 use Rattle.vad_state.specs.Arrays.{filled_of}
 

@@ -1,4 +1,3 @@
-use borrow.Author.Rules.{rules}
 use Rattle.dc_highpass.proofs.advance.Goals as goal
 
 pub returns : goal.returns

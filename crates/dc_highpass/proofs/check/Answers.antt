@@ -2,11 +2,10 @@ use native.Mathlib.Omega.{arith}
 use Prim.Native.Nat.{◌<◌, ◌≤◌}
 use lib.ListN.{length}
 use mathlib.Core.Path.{sym, ◌∙◌}
-use borrow.Author.Tests.{not-true, not-false, lt-ltb, le-ltb}
+use borrow.Author.Tests.{lt-ltb, le-ltb}
 use Rattle.refusals.specs.Refusals.{first_of}
 use Rattle.ranges.specs.Ranges.{clean_of}
 use Rattle.dc_highpass.specs.Filter.{check_of}
-use borrow.Author.Rules.{rules}
 use Rattle.dc_highpass.proofs.check.Goals as goal
 
 pub returns-then-not-sound : goal.returns-then-not-sound

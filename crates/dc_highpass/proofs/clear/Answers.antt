@@ -1,10 +1,7 @@
 use mathlib.Core.Path.{◌≡◌, sym, ◌∙◌}
-use Prim.Native.Nat.{◌≤◌, ◌-◌}
 use native.Mathlib.Omega.{arith}
-use lib.ListN.{length, set, replicate, length-set}
-use lib.Seq.{sets}
+use lib.ListN.{length, set, length-set}
 use Rattle.float.specs.Numbers.{zero32}
-use borrow.Author.Rules.{rules}
 use Rattle.lists.proofs.Stores.{clear_step, clear_end}
 use Rattle.dc_highpass.proofs.clear.Goals as goal
 

@@ -1,11 +1,8 @@
-use mathlib.Core.Path.{◌≡◌, sym, ◌∙◌}
+use mathlib.Core.Path.{◌≡◌}
 use Prim.Native.Nat.{◌≤◌, ◌-◌}
-use native.Mathlib.Omega.{arith}
-use lib.ListN.{length, set, replicate, length-set}
+use lib.ListN.{length, replicate}
 use lib.Seq.{sets}
 use Rattle.float.specs.Numbers.{zero32}
-use borrow.Author.Rules.{rules}
-use Rattle.lists.proofs.Stores.{clear_step, clear_end}
 use Rattle.dc_highpass.proofs.clear.Given as goal
 
 abbrev pub invariant-loop-i : goal.invariant-loop-i

@@ -1,6 +1,5 @@
 use mathlib.Core.Path.{sym, ◌∙◌}
 use Rattle.dc_highpass.specs.Filter.{bias_read}
-use borrow.Author.Rules.{rules}
 use Rattle.dc_highpass.proofs.dc_bias.Goals as goal
 
 pub returns-then-sound : goal.returns-then-sound

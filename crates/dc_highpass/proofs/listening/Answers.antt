@@ -1,5 +1,4 @@
 use mathlib.Core.Path.{sym, ap}
-use borrow.Author.Rules.{rules}
 use Rattle.dc_highpass.specs.Filter.{listens}
 use Rattle.dc_highpass.proofs.listening.Goals as goal
 

@@ -1,5 +1,4 @@
 use Rattle.dc_highpass.specs.Filter.{mean_of}
-use borrow.Author.Rules.{rules}
 use Rattle.dc_highpass.proofs.mean.Goals as goal
 
 pub returns : goal.returns

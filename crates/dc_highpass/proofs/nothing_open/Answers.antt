@@ -1,5 +1,4 @@
 use Rattle.dc_highpass.specs.Filter.{nothing_open}
-use borrow.Author.Rules.{rules}
 use Rattle.dc_highpass.proofs.nothing_open.Goals as goal
 
 pub returns : goal.returns

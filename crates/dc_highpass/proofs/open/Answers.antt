@@ -1,5 +1,4 @@
 use Rattle.dc_highpass.proofs.Turns.{open_taken, open_refused}
-use borrow.Author.Rules.{rules}
 use Rattle.dc_highpass.proofs.open.Goals as goal
 
 pub returns-then-refusal-eq0 : goal.returns-then-refusal-eq0

@@ -1,5 +1,4 @@
 use Rattle.dc_highpass.specs.Filter.{pass_of}
-use borrow.Author.Rules.{rules}
 use Rattle.dc_highpass.proofs.pass.Goals as goal
 
 pub returns-then-filter : goal.returns-then-filter

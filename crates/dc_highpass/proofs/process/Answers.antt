@@ -1,6 +1,5 @@
 use mathlib.Core.Path.{◌≡◌, sym, ap, ◌∙◌}
 use lib.ListN.{length}
-use borrow.Author.Rules.{rules}
 use Rattle.dc_highpass.specs.Filter.{check_of}
 use Rattle.refusals.specs.declared.Refusal.{Refusal}
 use Rattle.dc_highpass.proofs.Calls.{checked, answer_refused, answer_ran, output_refused, output_ran}

@@ -1,6 +1,5 @@
 use mathlib.Core.Path.{sym, ◌∙◌}
 use Rattle.dc_highpass.specs.Filter.{reset_of}
-use borrow.Author.Rules.{rules}
 use Rattle.dc_highpass.proofs.reset.Goals as goal
 
 pub returns-then-sound : goal.returns-then-sound

@@ -1,15 +1,8 @@
-use mathlib.Core.Path.{◌≡◌, sym, ap, ◌∙◌}
+use mathlib.Core.Path.{◌≡◌}
 use Prim.Native.Nat.{◌+◌, ◌≤◌, ◌-◌}
-use native.Mathlib.Omega.{arith}
-use lib.ListN.{length, drop, set, get_or, length-set}
-use lib.Ieee.{nan}
+use lib.ListN.{length, drop}
 use lib.Seq.{sets}
-use Rattle.lists.proofs.Stores.{sets_cons}
-use borrow.Author.Rules.{rules}
-use borrow.Author.Tests.{not-true, not-false}
-use Rattle.dc_highpass.specs.Filter.{pass_of, results_of, after_of}
-use Rattle.dc_highpass.proofs.Turns.{results_step, results_stop, results_end, after_step, after_end}
-use Rattle.dc_highpass.proofs.Calls.{ran_stuck, ran_done, written_stuck, written_done}
+use Rattle.dc_highpass.specs.Filter.{results_of, after_of}
 use Rattle.dc_highpass.proofs.run.Given as goal
 
 abbrev pub invariant-loop-i : goal.invariant-loop-i

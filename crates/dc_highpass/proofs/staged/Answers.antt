@@ -1,6 +1,5 @@
 use Rattle.dc_highpass.specs.Filter.{staged_by}
 use Rattle.dc_highpass.specs.Inside.{passed_of}
-use borrow.Author.Rules.{rules}
 use Rattle.dc_highpass.proofs.staged.Goals as goal
 
 pub returns-in-SecondOrder : goal.returns-in-SecondOrder

@@ -1,10 +1,5 @@
-use mathlib.Core.Path.{◌≡◌, sym, ◌∙◌}
-use Prim.Native.Nat.{◌≤◌, ◌-◌}
-use lib.ListN.{length, drop}
-use lib.Ieee.{neg}
-use Rattle.float.specs.Numbers.{zero32}
+use mathlib.Core.Path.{sym, ◌∙◌}
 use borrow.Author.Rules.{rules}
-use Rattle.dc_highpass.specs.Filter.{sum_from}
 use Rattle.dc_highpass.proofs.Turns.{sum_step, sum_end}
 use Rattle.dc_highpass.proofs.sum.Goals as goal
 

@@ -2,7 +2,6 @@ use mathlib.Core.Path.{sym, ◌∙◌}
 use borrow.Author.Tests.{not-true, not-false}
 use Rattle.dc_highpass.proofs.Turns.{empty_of, filled_of_lem, bias_off, bias_empty, bias_speech, bias_new}
 use Rattle.dc_highpass.specs.Filter.{bias_of}
-use borrow.Author.Rules.{rules}
 use Rattle.dc_highpass.proofs.update_dc_bias.Goals as goal
 
 pub returns-then-not-filter : goal.returns-then-not-filter

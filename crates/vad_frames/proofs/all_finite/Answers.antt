@@ -1,7 +1,5 @@
 use mathlib.Core.Path.{sym, ◌∙◌}
-use mathlib.Core.Bool.{true, false, true≢false}
-use borrow.Author.Rules.{rules}
-use borrow.Author.Tests.{not-false}
+use mathlib.Core.Bool.{true≢false}
 use Rattle.float.proofs.Words.{T_of}
 use Rattle.ranges.proofs.Laws.{all_finite}
 use Rattle.vad_frames.proofs.all_finite.Goals as goal

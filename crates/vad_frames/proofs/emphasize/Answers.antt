@@ -1,5 +1,4 @@
 use lib.Ieee.{of_bits}
-use borrow.Author.Rules.{rules}
 use Rattle.vad_frames.specs.Emphasis.{emphasized_of}
 use Rattle.vad_frames.proofs.emphasize.Goals as goal
 

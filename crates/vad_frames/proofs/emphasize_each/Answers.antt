@@ -1,11 +1,10 @@
 use mathlib.Core.Path.{◌≡◌, sym, ap, ◌∙◌}
-use Prim.Native.Nat.{◌+◌, ◌≤◌, ◌<◌, ◌-◌}
+use Prim.Native.Nat.{◌+◌, ◌≤◌, ◌<◌}
 use native.Mathlib.Omega.{arith}
 use lib.ListN.{length, drop, set, get_or, length-set}
 use lib.Seq.{sets}
 use lib.Ieee.{nan}
 use Rattle.lists.proofs.Stores.{sets_cons}
-use borrow.Author.Rules.{rules}
 use Rattle.vad_frames.specs.Emphasis.{emphasized_of, emphasized}
 use Rattle.vad_frames.proofs.Turns.{emphasized_step, emphasized_end}
 use Rattle.vad_frames.proofs.emphasize_each.Goals as goal

@@ -1,13 +1,8 @@
-use mathlib.Core.Path.{◌≡◌, sym, ap, ◌∙◌}
-use Prim.Native.Nat.{◌+◌, ◌≤◌, ◌<◌, ◌-◌}
-use native.Mathlib.Omega.{arith}
-use lib.ListN.{length, drop, set, get_or, length-set}
+use mathlib.Core.Path.{◌≡◌}
+use Prim.Native.Nat.{◌≤◌, ◌-◌}
+use lib.ListN.{length, drop}
 use lib.Seq.{sets}
-use lib.Ieee.{nan}
-use Rattle.lists.proofs.Stores.{sets_cons}
-use borrow.Author.Rules.{rules}
-use Rattle.vad_frames.specs.Emphasis.{emphasized_of, emphasized}
-use Rattle.vad_frames.proofs.Turns.{emphasized_step, emphasized_end}
+use Rattle.vad_frames.specs.Emphasis.{emphasized}
 use Rattle.vad_frames.proofs.emphasize_each.Given as goal
 
 abbrev pub invariant-loop-i : goal.invariant-loop-i

@@ -1,6 +1,5 @@
 use mathlib.Core.Path.{ap, ap₂, ◌∙◌}
 use lib.Ieee.{binary32, div}
-use borrow.Author.Rules.{rules}
 use Rattle.float.specs.Finite.{or_zero}
 use Rattle.float.specs.Root.{root_of}
 use Rattle.vad_frames.specs.Energy.{mean_square_of, energy_of}

@@ -1,5 +1,4 @@
 use native.Mathlib.Omega.{arith}
-use borrow.Author.Rules.{rules}
 use Rattle.vad_frames.proofs.Turns.{last_none, last_is}
 use Rattle.vad_frames.proofs.last_sample.Goals as goal
 

@@ -5,9 +5,7 @@ use native.Mathlib.Omega.{arith}
 use lib.ListN.{length, take, drop, set, length-set}
 use lib.Seq.{sets}
 use Rattle.lists.proofs.Stores.{sets_cons}
-use borrow.Author.Rules.{rules}
-use borrow.Author.Tests.{not-true, not-false}
-use Rattle.vad_frames.specs.Grid.{taken, frames_of, energies_of}
+use Rattle.vad_frames.specs.Grid.{taken, energies_of}
 use Rattle.vad_frames.specs.Energy.{energy_of}
 use Rattle.vad_frames.proofs.Turns.{part_is, frames_step, frames_stop, frames_end, energies_step, energies_none}
 use Rattle.vad_frames.proofs.measure.Goals.{Else-not-starts}

@@ -1,15 +1,8 @@
-use mathlib.Core.Path.{◌≡◌, sym, ap, ◌∙◌}
-use mathlib.Core.Bool.{true}
-use Prim.Native.Nat.{ℕ, ◌+◌, ◌-◌, ◌≤◌, ◌<◌}
-use native.Mathlib.Omega.{arith}
-use lib.ListN.{length, take, drop, set, length-set}
+use mathlib.Core.Path.{◌≡◌}
+use Prim.Native.Nat.{◌+◌, ◌-◌}
+use lib.ListN.{length, drop}
 use lib.Seq.{sets}
-use Rattle.lists.proofs.Stores.{sets_cons}
-use borrow.Author.Rules.{rules}
-use borrow.Author.Tests.{not-true, not-false}
-use Rattle.vad_frames.specs.Grid.{taken, frames_of, energies_of}
-use Rattle.vad_frames.specs.Energy.{energy_of}
-use Rattle.vad_frames.proofs.Turns.{part_is, frames_step, frames_stop, frames_end, energies_step, energies_none}
+use Rattle.vad_frames.specs.Grid.{frames_of, energies_of}
 use Rattle.vad_frames.proofs.measure.Given as goal
 
 abbrev pub invariant-loop-start : goal.invariant-loop-start

@@ -1,5 +1,4 @@
 use mathlib.Core.Path.{◌∙◌}
-use borrow.Author.Rules.{rules}
 use Rattle.vad_frames.specs.Emphasis.{emphasized}
 use Rattle.vad_frames.proofs.Laws.{emphasized_length}
 use Rattle.vad_frames.proofs.pre_emphasize.Goals as goal

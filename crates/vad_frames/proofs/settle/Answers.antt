@@ -1,6 +1,5 @@
 use mathlib.Core.Path.{refl, sym}
 use mathlib.Core.Bool.{true≢false}
-use borrow.Author.Rules.{rules}
 use Rattle.vad_frames.proofs.settle.Goals as goal
 
 pub settle_finite-requires : goal.settle_finite-requires

@@ -1,7 +1,6 @@
 use mathlib.Core.Path.{◌≡◌, refl, sym, ap, ◌∙◌}
-use mathlib.Core.Bool.{true}
 use mathlib.Core.List.{◌∷◌}
-use Prim.Native.Nat.{◌+◌, ◌≤◌, ◌<◌, ◌-◌}
+use Prim.Native.Nat.{◌+◌, ◌≤◌, ◌<◌}
 use native.Mathlib.Omega.{arith}
 use lib.Dec.{T}
 use lib.ListN.{length, drop, set, get_or, length-set}
@@ -11,9 +10,7 @@ use lib.Ieee.Scale.{finite}
 use Rattle.lists.proofs.Every.{every_at}
 use Rattle.lists.proofs.Stores.{sets_cons, sets_over}
 use Rattle.lists.proofs.Tests.{both}
-use borrow.Author.Rules.{rules}
 use Rattle.vad_frames.specs.Emphasis.{emphasized}
-use Rattle.vad_frames.specs.Inside.{SamePast}
 use Rattle.vad_frames.proofs.Turns.{emphasized_step, emphasized_end, finite_neg, settled_is}
 use Rattle.vad_frames.proofs.settle_finite.Goals as goal
 

@@ -1,20 +1,12 @@
-use mathlib.Core.Path.{◌≡◌, refl, sym, ap, ◌∙◌}
+use mathlib.Core.Path.{◌≡◌}
 use mathlib.Core.Bool.{true}
-use mathlib.Core.List.{◌∷◌}
-use Prim.Native.Nat.{◌+◌, ◌≤◌, ◌<◌, ◌-◌}
-use native.Mathlib.Omega.{arith}
+use Prim.Native.Nat.{◌≤◌, ◌-◌}
 use lib.Dec.{T}
-use lib.ListN.{length, drop, set, get_or, length-set}
+use lib.ListN.{length, drop}
 use lib.Seq.{sets}
-use lib.Ieee.{Float, nan}
 use lib.Ieee.Scale.{finite}
-use Rattle.lists.proofs.Every.{every_at}
-use Rattle.lists.proofs.Stores.{sets_cons, sets_over}
-use Rattle.lists.proofs.Tests.{both}
-use borrow.Author.Rules.{rules}
 use Rattle.vad_frames.specs.Emphasis.{emphasized}
 use Rattle.vad_frames.specs.Inside.{SamePast}
-use Rattle.vad_frames.proofs.Turns.{emphasized_step, emphasized_end, finite_neg, settled_is}
 use Rattle.vad_frames.proofs.settle_finite.Given as goal
 
 abbrev pub invariant-loop-i : goal.invariant-loop-i

@@ -1,10 +1,8 @@
-use mathlib.Core.Path.{◌≡◌, sym, ◌∙◌}
-use Prim.Native.Nat.{◌≤◌, ◌<◌, ◌-◌}
+use mathlib.Core.Path.{sym, ◌∙◌}
+use Prim.Native.Nat.{◌<◌}
 use native.Mathlib.Omega.{arith}
-use lib.ListN.{length, drop}
-use borrow.Author.Rules.{rules}
-use Rattle.float.specs.Numbers.{zero32}
-use Rattle.vad_frames.specs.Energy.{square_of, squares_from}
+use lib.ListN.{length}
+use Rattle.vad_frames.specs.Energy.{square_of}
 use Rattle.vad_frames.proofs.Turns.{squares_step, squares_end}
 use Rattle.vad_frames.proofs.sum_of_squares.Goals as goal
 

@@ -1,11 +1,8 @@
-use mathlib.Core.Path.{◌≡◌, sym, ◌∙◌}
-use Prim.Native.Nat.{◌≤◌, ◌<◌, ◌-◌}
-use native.Mathlib.Omega.{arith}
+use mathlib.Core.Path.{◌≡◌}
+use Prim.Native.Nat.{◌≤◌, ◌-◌}
 use lib.ListN.{length, drop}
-use borrow.Author.Rules.{rules}
 use Rattle.float.specs.Numbers.{zero32}
-use Rattle.vad_frames.specs.Energy.{square_of, squares_from}
-use Rattle.vad_frames.proofs.Turns.{squares_step, squares_end}
+use Rattle.vad_frames.specs.Energy.{squares_from}
 use Rattle.vad_frames.proofs.sum_of_squares.Given as goal
 
 abbrev pub invariant-loop-i : goal.invariant-loop-i

@@ -1,10 +1,7 @@
-use mathlib.Core.Path.{◌≡◌, sym, ap, ◌∙◌}
-use Prim.Native.Nat.{◌-◌, ◌≤◌}
+use mathlib.Core.Path.{sym, ap, ◌∙◌}
 use native.Mathlib.Omega.{arith}
-use lib.ListN.{length, drop}
-use Rattle.vad_segments.specs.Loudness.{at_least, least_from, seed_of}
+use Rattle.vad_segments.specs.Loudness.{at_least}
 use Rattle.vad_segments.proofs.Turns.{seed_first, seed_none, least_step, least_end}
-use borrow.Author.Rules.{rules}
 use Rattle.vad_segments.proofs.seed.Goals as goal
 
 pub returns-then-energies-eq0 : goal.returns-then-energies-eq0

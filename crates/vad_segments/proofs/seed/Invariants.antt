@@ -1,10 +1,7 @@
-use mathlib.Core.Path.{◌≡◌, sym, ap, ◌∙◌}
+use mathlib.Core.Path.{◌≡◌}
 use Prim.Native.Nat.{◌-◌, ◌≤◌}
-use native.Mathlib.Omega.{arith}
 use lib.ListN.{length, drop}
 use Rattle.vad_segments.specs.Loudness.{at_least, least_from, seed_of}
-use Rattle.vad_segments.proofs.Turns.{seed_first, seed_none, least_step, least_end}
-use borrow.Author.Rules.{rules}
 use Rattle.vad_segments.proofs.seed.Given as goal
 
 abbrev pub invariant-loop-i : goal.invariant-loop-i

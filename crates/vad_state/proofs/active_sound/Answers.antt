@@ -1,6 +1,5 @@
 use mathlib.Core.Path.{sym, ap}
 use Rattle.vad_state.specs.State.{active_sound}
-use borrow.Author.Rules.{rules}
 use Rattle.vad_state.proofs.active_sound.Goals as goal
 
 pub returns-in-Closed : goal.returns-in-Closed

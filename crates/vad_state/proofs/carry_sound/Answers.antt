@@ -2,14 +2,13 @@ use mathlib.Core.Path.{◌≡◌, sym, ap, ◌∙◌}
 use mathlib.Core.Bool.{true}
 use Prim.Native.Nat.{◌+◌, ◌≤◌, ◌<◌}
 use native.Mathlib.Omega.{arith}
-use borrow.Author.Tests.{not-true, not-false, lt-ltb, le-ltb}
+use borrow.Author.Tests.{lt-ltb, le-ltb}
 use lib.Dec.{ltb, eqb}
 use lib.Ieee.{neg}
 use Rattle.ranges.specs.Ranges.{all_within, in_domain}
 use Rattle.lists.proofs.Stores.{from_start}
 use Rattle.vad_state.specs.State.{loudest32, carry_sound}
 use Rattle.vad_state.proofs.Tests.{start_past, start_differs, start_joins}
-use borrow.Author.Rules.{rules}
 use Rattle.vad_state.proofs.carry_sound.Goals.{Else-frame_length-carry_len, Else-stream-carry_len}
 use Rattle.vad_state.proofs.carry_sound.Goals as goal
 

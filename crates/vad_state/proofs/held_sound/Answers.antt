@@ -2,14 +2,13 @@ use mathlib.Core.Path.{◌≡◌, sym, ap, ◌∙◌}
 use mathlib.Core.Bool.{true}
 use Prim.Native.Nat.{◌*◌, ◌≤◌, ◌<◌}
 use native.Mathlib.Omega.{arith}
-use borrow.Author.Tests.{not-true, not-false, lt-ltb, le-ltb, eq-eqb, ne_eqb}
+use borrow.Author.Tests.{lt-ltb, le-ltb, eq-eqb, ne_eqb}
 use lib.Dec.{ltb, eqb}
 use Rattle.ranges.specs.Ranges.{all_within}
 use Rattle.float.specs.Numbers.{zero32}
 use Rattle.lists.proofs.Stores.{from_start}
 use Rattle.vad_state.specs.State.{loudest32, held_sound}
 use Rattle.vad_state.proofs.Tests.{held_fits}
-use borrow.Author.Rules.{rules}
 use Rattle.vad_state.proofs.held_sound.Goals.{Else-held-lengths, Else-lengths-held}
 use Rattle.vad_state.proofs.held_sound.Goals as goal
 

@@ -1,5 +1,4 @@
 use mathlib.Core.Path.{sym, ap}
-use borrow.Author.Rules.{rules}
 use Rattle.vad_state.specs.State.{is_closed}
 use Rattle.vad_state.proofs.is_closed.Goals as goal
 

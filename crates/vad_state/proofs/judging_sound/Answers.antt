@@ -1,9 +1,7 @@
 use mathlib.Core.Path.{◌≡◌, sym, ◌∙◌}
 use mathlib.Core.Bool.{true}
-use borrow.Author.Tests.{not-true, not-false}
 use Rattle.vad_state.specs.State.{track_sound}
 use Rattle.vad_state.proofs.Parts.{track_parts}
-use borrow.Author.Rules.{rules}
 use Rattle.vad_state.proofs.judging_sound.Goals.{Else-not-track_sound}
 use Rattle.vad_state.proofs.judging_sound.Goals as goal
 

@@ -2,12 +2,11 @@ use mathlib.Core.Path.{◌≡◌, sym, ◌∙◌}
 use mathlib.Core.Bool.{true}
 use Prim.Native.Nat.{◌*◌, ◌≤◌, ◌<◌}
 use native.Mathlib.Omega.{arith}
-use borrow.Author.Tests.{not-true, not-false, lt-ltb, le-ltb, le-leb, lt-leb}
+use borrow.Author.Tests.{lt-ltb, le-ltb, le-leb, lt-leb}
 use lib.Dec.{ltb, leb}
 use Rattle.ranges.specs.Ranges.{within}
 use Rattle.float.specs.Numbers.{zero32}
 use Rattle.vad_state.specs.State.{total32, segment_sound}
-use borrow.Author.Rules.{rules}
 use Rattle.vad_state.proofs.segment_sound.Goals.{Else-not-inside, Else-received-segment, Else-received-segment-2, Else-received-segment-3, Else-segment, Else-segment-eq0, Else-segment-last_segment_end}
 use Rattle.vad_state.proofs.segment_sound.Goals as goal
 

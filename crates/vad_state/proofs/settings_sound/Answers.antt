@@ -1,7 +1,7 @@
 use mathlib.Core.Path.{◌≡◌, sym, ap, ◌∙◌}
 use mathlib.Core.Bool.{true}
 use Prim.Native.Nat.{◌≤◌}
-use borrow.Author.Tests.{not-true, not-false, eq-eqb, ne_eqb}
+use borrow.Author.Tests.{eq-eqb, ne_eqb}
 use Rattle.vad_config.specs.Settings.{refusal_of, lengths_of}
 use Rattle.lists.proofs.Stores.{from_start}
 use Rattle.ranges.specs.Sizes.{frame_most}

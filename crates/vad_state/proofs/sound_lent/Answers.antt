@@ -1,9 +1,7 @@
 use mathlib.Core.Path.{◌≡◌, sym, ◌∙◌}
 use mathlib.Core.Bool.{true}
-use borrow.Author.Tests.{not-true, not-false}
 use Rattle.vad_state.specs.State.{state_of}
 use Rattle.vad_state.proofs.Tests.{stream_test, not_stream, not_judged, all_sound, warmup_short, hop_short}
-use borrow.Author.Rules.{rules}
 use Rattle.vad_state.proofs.sound_lent.Goals.{Else-not-stream_sound}
 use Rattle.vad_state.proofs.sound_lent.Goals as goal
 

@@ -1,10 +1,8 @@
 use mathlib.Core.Path.{◌≡◌, sym, ◌∙◌}
 use mathlib.Core.Bool.{true}
-use borrow.Author.Tests.{not-true, not-false}
 use Rattle.vad_state.specs.State.{settings_sound}
 use Rattle.vad_state.proofs.Parts.{settings_parts}
 use Rattle.vad_state.proofs.Tests.{frame_short}
-use borrow.Author.Rules.{rules}
 use Rattle.vad_state.proofs.stream_sound.Goals.{Else-not-settings_sound}
 use Rattle.vad_state.proofs.stream_sound.Goals as goal
 

@@ -1,14 +1,12 @@
 use mathlib.Core.Path.{◌≡◌, sym, ◌∙◌}
 use mathlib.Core.Bool.{true, false}
-use Prim.Native.Nat.{◌^◌}
-use borrow.Author.Tests.{not-true, not-false, le-leb, lt-leb}
+use borrow.Author.Tests.{le-leb, lt-leb}
 use lib.Dec.{leb}
 use lib.Ieee.{lt}
 use lib.Ieee.Scale.{finite}
 use Rattle.vad_config.specs.Domain.{received_in}
 use Rattle.ranges.specs.Sizes.{received_most}
 use Rattle.vad_state.specs.State.{track_sound}
-use borrow.Author.Rules.{rules}
 use Rattle.vad_state.proofs.track_sound.Goals.{Else-not-is_finite, Else-received-gt-RECEIVED_MOST, Else-received-track, Else-track, Else-track-energy_floor}
 use Rattle.vad_state.proofs.track_sound.Goals as goal
 

@@ -1,5 +1,3 @@
-use borrow.Author.Tests.{not-true, not-false}
-use borrow.Author.Rules.{rules}
 use Rattle.vad_state.proofs.warmup_sound.Goals as goal
 
 pub returns-then-not-desk : goal.returns-then-not-desk

@@ -1,7 +1,5 @@
 use mathlib.Core.Path.{◌≡◌, sym, ◌∙◌}
 use mathlib.Core.Bool.{true, false}
-use borrow.Author.Rules.{rules}
-use borrow.Author.Tests.{not-true, not-false}
 use Rattle.ranges.specs.Ranges.{all_within}
 use Rattle.float.specs.Numbers.{zero32, one32}
 use Rattle.vad_state.specs.State.{weights_in}

@@ -1,6 +1,5 @@
 use mathlib.Core.Path.{◌≡◌, refl, ap, ◌∙◌}
 use lib.Ieee.{Float, nan, binary32, of_bits, div}
-use borrow.Author.Rules.{rules}
 use Rattle.float.specs.Finite.{or_else}
 use Rattle.float.specs.Fused.{fused_of}
 use Rattle.dc_state.proofs.biquad.fused.Goals as goal

@@ -1,5 +1,4 @@
 use mathlib.Core.Path.{refl}
-use borrow.Author.Rules.{rules}
 use Rattle.dc_state.specs.Biquad.{output_of, next_of}
 use Rattle.dc_state.proofs.biquad.step.Goals as goal
 

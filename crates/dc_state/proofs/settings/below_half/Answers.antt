@@ -1,4 +1,3 @@
-use borrow.Author.Rules.{rules}
 use Rattle.dc_state.proofs.settings.below_half.Goals as goal
 
 pub returns : goal.returns

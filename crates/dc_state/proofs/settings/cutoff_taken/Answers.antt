@@ -1,5 +1,4 @@
 use mathlib.Core.Path.{sym, ◌∙◌}
-use borrow.Author.Rules.{rules}
 use Rattle.dc_state.proofs.settings.cutoff_taken.Goals as goal
 
 pub returns-then-is_finite : goal.returns-then-is_finite

@@ -1,7 +1,5 @@
 use mathlib.Core.Path.{sym, ◌∙◌}
-use borrow.Author.Tests.{not-true, not-false}
 use Rattle.dc_state.specs.Settings.{remembers_finite}
-use borrow.Author.Rules.{rules}
 use Rattle.dc_state.proofs.settings.remembers_finite.Goals as goal
 
 pub returns-then-not-is_finite : goal.returns-then-not-is_finite

@@ -1,7 +1,5 @@
 use mathlib.Core.Path.{sym, ◌∙◌}
-use borrow.Author.Tests.{not-true, not-false}
 use Rattle.dc_state.specs.Settings.{stage_taken}
-use borrow.Author.Rules.{rules}
 use Rattle.dc_state.proofs.settings.stage_taken.Goals as goal
 
 pub returns-then-not-inside : goal.returns-then-not-inside

@@ -1,5 +1,4 @@
 use mathlib.Core.Path.{sym, ◌∙◌}
-use borrow.Author.Rules.{rules}
 use Rattle.dc_state.specs.Settings.{stages_taken}
 use Rattle.dc_state.proofs.settings.stages_taken.Goals as goal
 

@@ -1,5 +1,4 @@
 use mathlib.Core.Path.{◌≡◌, ◌∙◌}
-use borrow.Author.Rules.{rules}
 use Rattle.refusals.proofs.First.{from, here, skip, last, number_of_lem, denied}
 use Rattle.dc_state.specs.Settings.{setting_refusals, refusal_of}
 use Rattle.dc_state.proofs.settings.validate.Goals.{Else-not-alpha_taken, Else-not-below_half, Else-not-cutoff_taken, Else-not-rate_allowed}

@@ -2,7 +2,6 @@ use native.Mathlib.Omega.{arith}
 use Rattle.vad_row.proofs.Laws.{report_le}
 use Rattle.vad_segments.specs.Closing.{booked_of}
 use Rattle.vad_segments.specs.Judging.{active_to}
-use borrow.Author.Rules.{rules}
 use Rattle.vad_segments.proofs.closing.book.Goals as goal
 
 pub overflow_add-track : goal.overflow_add-track

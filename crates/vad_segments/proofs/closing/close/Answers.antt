@@ -3,7 +3,6 @@ use native.Mathlib.Omega.{arith}
 use Rattle.vad_segments.specs.Closing.{closed_by, closed_of}
 use Rattle.vad_segments.specs.Rooms.{positions_most, counts_most}
 use Rattle.vad_segments.proofs.Rooms.{finalized_ends}
-use borrow.Author.Rules.{rules}
 use Rattle.vad_segments.proofs.closing.close.Goals as goal
 
 pub finalize_segment-requires : goal.finalize_segment-requires

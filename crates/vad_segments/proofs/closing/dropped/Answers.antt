@@ -1,5 +1,4 @@
 use Rattle.vad_segments.specs.Closing.{dropped_of}
-use borrow.Author.Rules.{rules}
 use Rattle.vad_segments.proofs.closing.dropped.Goals as goal
 
 pub returns : goal.returns

@@ -1,7 +1,6 @@
 use mathlib.Core.Path.{◌≡◌}
 use mathlib.Core.Bool.{true, false}
 use Rattle.vad_segments.specs.Judging.{ended_of}
-use borrow.Author.Rules.{rules}
 use Rattle.vad_segments.proofs.closing.ended.Goals as goal
 
 pub returns-then-finish : goal.returns-then-finish

@@ -1,6 +1,5 @@
 use mathlib.Core.Path.{sym, ◌∙◌}
 use Rattle.vad_segments.specs.Closing.{finalized_of}
-use borrow.Author.Rules.{rules}
 use Rattle.vad_segments.proofs.closing.finalize_segment.Goals as goal
 
 pub returns-then-too_short : goal.returns-then-too_short

@@ -1,5 +1,4 @@
 use Rattle.vad_segments.specs.Closing.{mean_energy_of}
-use borrow.Author.Rules.{rules}
 use Rattle.vad_segments.proofs.closing.mean_energy.Goals as goal
 
 pub returns : goal.returns

@@ -1,6 +1,5 @@
 use native.Mathlib.Numerals.{add-one}
 use Rattle.vad_segments.specs.Closing.{padded_end}
-use borrow.Author.Rules.{rules}
 use Rattle.vad_segments.proofs.closing.padded_end.Goals as goal
 
 pub returns : goal.returns

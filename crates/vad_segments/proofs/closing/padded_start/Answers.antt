@@ -1,5 +1,4 @@
 use Rattle.vad_segments.specs.Closing.{padded_start}
-use borrow.Author.Rules.{rules}
 use Rattle.vad_segments.proofs.closing.padded_start.Goals as goal
 
 pub returns : goal.returns

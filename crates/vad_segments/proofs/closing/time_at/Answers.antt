@@ -1,5 +1,4 @@
 use Rattle.vad_segments.specs.Closing.{time_at}
-use borrow.Author.Rules.{rules}
 use Rattle.vad_segments.proofs.closing.time_at.Goals as goal
 
 pub returns : goal.returns

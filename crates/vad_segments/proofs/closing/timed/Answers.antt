@@ -1,7 +1,6 @@
 use mathlib.Core.Path.{◌∙◌}
 use native.Mathlib.Omega.{arith}
 use Rattle.vad_segments.proofs.Calls.{timed_dropped, timed_row}
-use borrow.Author.Rules.{rules}
 use Rattle.vad_segments.proofs.closing.timed.Goals as goal
 
 pub returns-then-time_at : goal.returns-then-time_at

@@ -1,6 +1,5 @@
 use Rattle.vad_segments.specs.Judging.{loud_added}
 use Rattle.vad_segments.proofs.Rooms.{segment_counts}
-use borrow.Author.Rules.{rules}
 use Rattle.vad_segments.proofs.judging.add_loud.Goals as goal
 
 pub extend-extended-requires : goal.extend-extended-requires

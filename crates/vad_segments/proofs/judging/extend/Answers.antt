@@ -2,7 +2,6 @@ use native.Mathlib.Omega.{arith}
 use native.Mathlib.Numerals.{add-one}
 use Rattle.vad_segments.specs.Judging.{extended_by}
 use Rattle.score.proofs.Laws.{score_le}
-use borrow.Author.Rules.{rules}
 use Rattle.vad_segments.proofs.judging.extend.Goals as goal
 
 pub overflow_add-segment : goal.overflow_add-segment

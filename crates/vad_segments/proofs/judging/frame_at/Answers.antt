@@ -1,5 +1,4 @@
 use Rattle.vad_segments.specs.Judging.{frame_at}
-use borrow.Author.Rules.{rules}
 use Rattle.vad_segments.proofs.judging.frame_at.Goals as goal
 
 pub returns : goal.returns

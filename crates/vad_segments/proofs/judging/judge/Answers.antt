@@ -1,6 +1,5 @@
 use Rattle.vad_segments.proofs.Calls.{judged_is}
 use Rattle.vad_segments.specs.Judging.{floored_to}
-use borrow.Author.Rules.{rules}
 use Rattle.vad_segments.proofs.judging.judge.Goals as goal
 
 pub returns : goal.returns

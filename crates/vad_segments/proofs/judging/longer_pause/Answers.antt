@@ -1,7 +1,6 @@
 use native.Mathlib.Omega.{arith}
 use native.Mathlib.Numerals.{add-one}
 use Rattle.vad_segments.specs.Judging.{paused_by}
-use borrow.Author.Rules.{rules}
 use Rattle.vad_segments.proofs.judging.longer_pause.Goals as goal
 
 pub overflow_add-paused : goal.overflow_add-paused

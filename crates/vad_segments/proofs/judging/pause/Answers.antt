@@ -1,5 +1,4 @@
 use Rattle.vad_segments.specs.Judging.{paused_of}
-use borrow.Author.Rules.{rules}
 use Rattle.vad_segments.proofs.judging.pause.Goals as goal
 
 pub returns : goal.returns

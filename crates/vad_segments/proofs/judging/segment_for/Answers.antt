@@ -1,5 +1,4 @@
 use Rattle.vad_segments.specs.Judging.{begun_at, segment_for}
-use borrow.Author.Rules.{rules}
 use Rattle.vad_segments.proofs.judging.segment_for.Goals as goal
 
 pub returns-in-Closed : goal.returns-in-Closed

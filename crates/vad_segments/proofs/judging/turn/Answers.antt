@@ -1,5 +1,4 @@
 use Rattle.vad_segments.specs.Judging.{turned_of}
-use borrow.Author.Rules.{rules}
 use Rattle.vad_segments.proofs.judging.turn.Goals as goal
 
 pub returns-then-loud : goal.returns-then-loud

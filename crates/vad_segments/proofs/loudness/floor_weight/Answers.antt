@@ -9,5 +9,6 @@ returns-then-floor-energy c = simp (c.if-speech.true, c.if-floor-energy.true)
 pub returns : goal.returns
 unfolding weight_of
 returns c = elim c.else-speech.branch [
-      else-speech-via-then-speech+else-floor-energy w ↦ simp (w.if-speech.true, w.if-floor-energy.false)
-    | else-speech-via-else-speech w ↦ simp w.if-speech.false ]
+  | else-speech-via-then-speech+else-floor-energy w ↦ simp (w.if-speech.true, w.if-floor-energy.false)
+  | else-speech-via-else-speech w ↦ simp w.if-speech.false
+]

@@ -1,6 +1,5 @@
 use lib.Ieee.{of_bits}
 use Rattle.vad_segments.specs.Loudness.{floor_of}
-use borrow.Author.Rules.{rules}
 use Rattle.vad_segments.proofs.loudness.next_floor.Goals as goal
 
 pub returns : goal.returns

@@ -1,5 +1,4 @@
 use Rattle.vad_segments.specs.Loudness.{required_of}
-use borrow.Author.Rules.{rules}
 use Rattle.vad_segments.proofs.loudness.required_ratio.Goals as goal
 
 pub returns-in-Closed : goal.returns-in-Closed

@@ -1,5 +1,4 @@
 use Rattle.vad_segments.specs.Positions.{decided_to}
-use borrow.Author.Rules.{rules}
 use Rattle.vad_segments.proofs.positions.decided_to.Goals as goal
 
 pub returns : goal.returns

@@ -1,5 +1,3 @@
-use mathlib.Core.Path.{◌≡◌}
-use mathlib.Core.Bool.{true, false, not}
 use Rattle.vad_segments.specs.Positions.{holds_of}
 use Rattle.vad_segments.proofs.positions.holds.Goals as goal
 

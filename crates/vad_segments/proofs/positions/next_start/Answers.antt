@@ -1,5 +1,4 @@
 use Rattle.vad_segments.specs.Positions.{next_of}
-use borrow.Author.Rules.{rules}
 use Rattle.vad_segments.proofs.positions.next_start.Goals as goal
 
 pub returns-in-Closed : goal.returns-in-Closed

@@ -1,7 +1,6 @@
 use mathlib.Core.Path.{◌≡◌}
 use mathlib.Core.Bool.{true, false}
 use Rattle.vad_segments.specs.Positions.{undecided_of}
-use borrow.Author.Rules.{rules}
 use Rattle.vad_segments.proofs.positions.undecided_from.Goals as goal
 
 pub returns-then-warming : goal.returns-then-warming

@@ -1,9 +1,7 @@
 use mathlib.Core.Path.{◌≡◌, sym, ◌∙◌}
-use Prim.Native.Nat.{◌≤◌, ◌<◌, ◌-◌}
+use Prim.Native.Nat.{◌≤◌, ◌<◌}
 use native.Mathlib.Omega.{arith}
-use lib.ListN.{length, set, replicate, length-set}
-use lib.Seq.{sets}
-use borrow.Author.Rules.{rules}
+use lib.ListN.{length, set, length-set}
 use Rattle.float.specs.Numbers.{zero32}
 use Rattle.lists.proofs.Stores.{clear_step, clear_end}
 use Rattle.vad_state.proofs.Fills.{cleared}

@@ -1,12 +1,8 @@
-use mathlib.Core.Path.{◌≡◌, sym, ◌∙◌}
-use Prim.Native.Nat.{◌≤◌, ◌<◌, ◌-◌}
-use native.Mathlib.Omega.{arith}
-use lib.ListN.{length, set, replicate, length-set}
+use mathlib.Core.Path.{◌≡◌}
+use Prim.Native.Nat.{◌≤◌, ◌-◌}
+use lib.ListN.{length, replicate}
 use lib.Seq.{sets}
-use borrow.Author.Rules.{rules}
 use Rattle.float.specs.Numbers.{zero32}
-use Rattle.lists.proofs.Stores.{clear_step, clear_end}
-use Rattle.vad_state.proofs.Fills.{cleared}
 use Rattle.vad_state.proofs.arrays.clear.Given as goal
 
 abbrev pub invariant-loop-i : goal.invariant-loop-i

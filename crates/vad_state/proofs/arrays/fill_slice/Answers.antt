@@ -1,6 +1,5 @@
 use mathlib.Core.Path.{refl, ◌∙◌}
 use lib.ListN.{length}
-use borrow.Author.Rules.{rules}
 use Rattle.vad_state.proofs.Fills.{put_cleared}
 use Rattle.vad_state.proofs.arrays.fill_slice.Goals as goal
 

@@ -1,6 +1,5 @@
 use mathlib.Core.Path.{◌∙◌}
 use Rattle.ranges.specs.Sizes.{frame_most}
-use borrow.Author.Rules.{rules}
 use Rattle.vad_state.proofs.Fills.{put_filled}
 use Rattle.vad_state.proofs.arrays.filled.Goals as goal
 

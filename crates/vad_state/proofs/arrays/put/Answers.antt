@@ -1,10 +1,8 @@
 use mathlib.Core.Path.{◌≡◌, sym, ◌∙◌}
-use Prim.Native.Nat.{◌≤◌, ◌<◌, ◌-◌}
+use Prim.Native.Nat.{◌≤◌, ◌<◌}
 use native.Mathlib.Omega.{arith}
-use lib.ListN.{length, drop, set, get_or, length-set}
-use lib.Seq.{sets}
+use lib.ListN.{length, set, get_or, length-set}
 use lib.Ieee.{nan}
-use borrow.Author.Rules.{rules}
 use Rattle.lists.proofs.Stores.{put_step, put_end}
 use Rattle.vad_state.proofs.arrays.put.Goals as goal
 

@@ -1,11 +1,7 @@
-use mathlib.Core.Path.{◌≡◌, sym, ◌∙◌}
-use Prim.Native.Nat.{◌≤◌, ◌<◌, ◌-◌}
-use native.Mathlib.Omega.{arith}
-use lib.ListN.{length, drop, set, get_or, length-set}
+use mathlib.Core.Path.{◌≡◌}
+use Prim.Native.Nat.{◌≤◌, ◌-◌}
+use lib.ListN.{length, drop}
 use lib.Seq.{sets}
-use lib.Ieee.{nan}
-use borrow.Author.Rules.{rules}
-use Rattle.lists.proofs.Stores.{put_step, put_end}
 use Rattle.vad_state.proofs.arrays.put.Given as goal
 
 abbrev pub invariant-loop-i : goal.invariant-loop-i

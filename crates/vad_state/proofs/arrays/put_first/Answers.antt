@@ -1,6 +1,5 @@
 use mathlib.Core.Path.{ap, ◌∙◌}
 use lib.Seq.{sets}
-use borrow.Author.Rules.{rules}
 use Rattle.lists.proofs.Stores.{from_start}
 use Rattle.vad_state.proofs.arrays.put_first.Goals as goal
 
