@@ -161,7 +161,7 @@ module _ (c : VadConfig) (before : List Seen) (d e : VadDetector) (s : Seen) (k 
     quiet = m.quiet;
     rows = m.rows;
     all_frames = on.frames;
-    all_loud_lem = on.loud;
+    all_loud = on.loud;
     all_quiet = on.quiet;
     all_rows = m.shown.reported ∙ on.rows;
     all_talk = m.shown.talk ∙ on.talk;

@@ -2,7 +2,7 @@
 use mathlib.Core.Path.{◌≡◌, refl, ap, ◌∙◌}
 use mathlib.Core.Bool.{Bool, true, false, cond}
 use mathlib.Core.List.{List, [], ◌∷◌}
-use Prim.Native.Nat.{ℕ, ◌+◌, ◌-◌, ◌*◌}
+use Prim.Native.Nat.{ℕ, ◌+◌, ◌*◌}
 use lib.Ieee.{binary32, of_bits, of_int, fits, le, add, sub, mul, div, round, to_bits, is_nan}
 use Rattle.float.specs.Fused.{fused_of}
 use Rattle.float.specs.Root.{root_of, twice_root}

@@ -84,7 +84,7 @@ pub record Counted (before : List Seen) (s : Seen) : Type 0 where
   pub quiet : s.tally.quiet ≡ count_of (map not s.louds)
   pub rows : s.tally.rows ≡ length s.rows
   pub all_frames : total_of (λ e. e.tally.frames) (s ∷ before) ≡ length (louds_in (s ∷ before))
-  pub all_loud_lem : total_of (λ e. e.tally.loud) (s ∷ before) ≡ count_of (louds_in (s ∷ before))
+  pub all_loud : total_of (λ e. e.tally.loud) (s ∷ before) ≡ count_of (louds_in (s ∷ before))
   pub all_quiet : total_of (λ e. e.tally.quiet) (s ∷ before) ≡ count_of (map not (louds_in (s ∷ before)))
   pub all_rows : s.reported ≡ length (rows_in (s ∷ before))
   pub all_talk : s.talk ≡ talk_of (rows_in (s ∷ before))

@@ -14,7 +14,14 @@ fn fill<R: Read>(input: &mut R, bytes: &mut [u8; 4]) -> io::Result<usize>
 {
     let mut at: usize = 0;
     for _ in 0..4 {
-        at += input.read(&mut bytes[at..])?;
+        if at == 4 {
+            break;
+        }
+        let n = input.read(&mut bytes[at..])?;
+        if n == 0 {
+            break;
+        }
+        at += n;
     }
     Ok(at)
 }

@@ -2,7 +2,7 @@
 use mathlib.Core.Path.{◌≡◌, refl, sym, ap, ◌∙◌}
 use mathlib.Core.Bool.{Bool, true, false, not, ◌&&◌, cond, true≢false}
 use mathlib.Core.List.{List, [], ◌∷◌, ◌++◌}
-use Prim.Native.Nat.{ℕ, ◌+◌, ◌-◌, ◌^◌, ◌≤◌, ◌<◌}
+use Prim.Native.Nat.{ℕ, ◌+◌, ◌-◌, ◌≤◌, ◌<◌}
 use native.Mathlib.Omega.{arith}
 use borrow.Author.Tests.{lt-ltb, le-ltb, ltb-true, eq-eqb, ne_eqb}
 use lib.Dec.{ltb, lit≤}
@@ -24,7 +24,6 @@ use Rattle.vad_row.proofs.Laws.{flat_length, room_enough}
 use Rattle.vad_segments.proofs.Ordered.{call_rows_counted}
 use Rattle.vad_classify.specs.Classify.{classified_of}
 use Rattle.vad_classify.specs.declared.Classified.{Classified}
-use Rattle.vad_state.specs.Arrays.{filled_of}
 use Rattle.ranges.specs.Sizes.{frame_most, warmup_most, block_most}
 use Rattle.vad_state.specs.State.{window_of, carried_of, held_of}
 use Rattle.vad_call.specs.Calls.{values_most, energies_most, values_of, waiting_of, measured_from, measured_of, consumed_from, carry_after, stream_after, holding_with, holding_of, held_after, due_of, seeded_of, grid_start, frames_due, verdict_of, rows_due, refused_by, accepted_of, too_many, concluded_of, reported_in, ran_of, rows_of_call, written_of, tally_of, desk_after, advanced_of, joined_of, settled_of}

@@ -3,11 +3,11 @@ use mathlib.Core.Path.{◌≡◌, refl, sym, ap, ◌∙◌, subst}
 use mathlib.Core.Logic.{◌⊎◌, inl, inr, ⊎_elim}
 use mathlib.Core.Bool.{Bool, true, false, not, ◌&&◌, ◌||◌, cond, true≢false}
 use mathlib.Core.List.{List, [], ◌∷◌, ◌++◌}
-use Prim.Native.Nat.{ℕ, ◌+◌, ◌*◌, ◌^◌, ◌≤◌}
+use Prim.Native.Nat.{ℕ, ◌+◌, ◌*◌, ◌≤◌}
 use native.Mathlib.Nat.{zero-mul}
 use native.Mathlib.Omega.{arith}
-use borrow.Author.Tests.{ltb-false, leb-true, eqb-true, eqb-false, le-ltb, ne_eqb}
-use lib.Dec.{T, lit<, lit≤, eqb, leb, ltb}
+use borrow.Author.Tests.{eqb-true, eqb-false, le-ltb, ne_eqb}
+use lib.Dec.{T, lit<, lit≤, eqb, ltb}
 use lib.ListN.{length}
 use lib.Ieee.{Float, nan, inf, fin, of_bits, up, down, le, lt, neg}
 use lib.Ieee.Scale.{finite}
@@ -16,11 +16,11 @@ use lib.Ieee.Bits.{is_true}
 use lib.Ieee.Positive.{positive, above_of_le, le→cross}
 use Rattle.lists.specs.Every.{Every}
 use Rattle.lists.proofs.Every.{every_map}
-use Rattle.ranges.specs.Ranges.{rate_in, within, limit, in_domain, clean_of}
+use Rattle.ranges.specs.Ranges.{rate_in, within, limit, in_domain}
 use Rattle.ranges.proofs.Laws.{within_all, clean_mags}
 use Rattle.float.proofs.Bounds.{Mag, le_of_mag}
 use Rattle.float.specs.Numbers.{zero32}
-use Rattle.vad_config.specs.Domain.{start_in, received_in}
+use Rattle.vad_config.specs.Domain.{start_in}
 use Rattle.refusals.specs.Refusals.{Case, bare, first_of}
 use Rattle.refusals.proofs.First.{without, never, skip, last_case, number_of_lem}
 use Rattle.lists.proofs.Tests.{either}
@@ -36,9 +36,9 @@ use Rattle.vad_row.specs.declared.Row.{Row}
 use Rattle.vad_segments.proofs.Ordered.{ActiveOrdered}
 use Rattle.vad_segments.proofs.Counts.{ActiveCounted, count_in}
 use Rattle.vad_segments.proofs.Floor.{FloorRules, ActiveHeld, floor_rules, floor_is_finite, least_held, energy_in, total_in}
-use Rattle.ranges.specs.Sizes.{frame_most, warmup_most, block_most, received_most}
+use Rattle.ranges.specs.Sizes.{frame_most, block_most, received_most}
 use Rattle.vad_state.specs.State.{loudest32, total32, window_of, carried_of, held_of, weights_in, settings_sound, sound_of}
-use Rattle.vad_detector.specs.Opening.{weights_fit, open_refusal, rules_of, fresh_of, zero_rules, nothing_open, open_of, Handed, restarted_of, reset_to, reset_of}
+use Rattle.vad_detector.specs.Opening.{open_refusal, rules_of, fresh_of, zero_rules, nothing_open, open_of, Handed, restarted_of, reset_to, reset_of}
 use Rattle.vad_call.specs.Calls.{too_many, rows_due, refused_by, accepted_of, concluded_of, ran_of, measured_of, stream_after, due_of, holding_of, carry_after, held_after, verdict_of}
 use Rattle.vad_call.specs.Checks.{block_refusals, check_of}
 use Rattle.vad_detector.specs.Entries.{detect_of, flush_of}
@@ -47,7 +47,6 @@ use Rattle.vad_detector.specs.Run.{Call, Detect, Flush, Reset, next, number_of, 
 use Rattle.vad_state.specs.declared.VadDetector.{VadDetector}
 use Rattle.vad_call.specs.declared.Detected.{Detected}
 use Rattle.refusals.specs.declared.Refusal.{Refusal}
-use Rattle.vad_detector.specs.declared.Opened.{Opened}
 use Rattle.vad_state.proofs.Parts.{ActiveIn, HeldIn, Sound, whole}
 use Rattle.vad_state.proofs.Fills.{filled_take}
 use Rattle.vad_detector.proofs.Answers.{checked, open_parts}

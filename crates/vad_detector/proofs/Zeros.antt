@@ -10,7 +10,6 @@ use lib.Ieee.{Float}
 use Rattle.vad_config.specs.declared.VadConfig.{VadConfig}
 use Rattle.vad_config.proofs.Laws.{lengths_are}
 use Rattle.vad_segments.specs.declared.Rules.{Rules}
-use Rattle.vad_segments.specs.declared.Track.{Track}
 use Rattle.ranges.specs.Sizes.{frame_most, warmup_most}
 use Rattle.vad_state.specs.State.{window_of, carried_of, held_of, sound_of}
 use Rattle.vad_state.specs.Arrays.{filled_of}

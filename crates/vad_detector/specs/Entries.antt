@@ -1,7 +1,5 @@
 -- Detect and flush: what is refused, in which order, and what a call answers and leaves in the lent rows.
-use Rattle.std.specs.Prelude.{true, false, not, cond, List, [], ℕ, ◌+◌, ltb, eqb, length, Float}
-use Rattle.ranges.specs.Ranges.{clean_of}
-use Rattle.vad_config.specs.Domain.{received_in}
+use Rattle.std.specs.Prelude.{true, false, cond, List, [], ℕ, eqb, Float}
 use Rattle.vad_state.specs.State.{sound_of}
 use Rattle.vad_call.specs.Checks.{check_of}
 use Rattle.vad_call.specs.Calls.{refused_by, ran_of, written_of}

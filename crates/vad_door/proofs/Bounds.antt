@@ -1,15 +1,13 @@
 -- What the door's answers carry is small, whatever the state: `answer` asks for less than 2^55. Assumes nothing.
-use mathlib.Core.Path.{◌≡◌, refl, sym, subst}
+use mathlib.Core.Path.{◌≡◌, refl}
 use mathlib.Core.Bool.{Bool, true, false, not, cond}
 use mathlib.Core.List.{List, [], ◌∷◌}
 use Prim.Native.Nat.{ℕ, suc, ◌+◌, ◌^◌, ◌≤◌, ◌<◌}
 use native.Mathlib.Omega.{arith}
 use borrow.Author.Tests.{ltb-true, ltb-false}
-use lib.Dec.{ltb}
 use lib.ListN.{length, length-append, length-take}
 use lib.Ieee.{Float}
 use Rattle.ranges.specs.Ranges.{clean_of}
-use Rattle.vad_config.specs.Domain.{received_in}
 use Rattle.vad_frames.specs.Emphasis.{coefficient_of, emphasized}
 use Rattle.vad_frames.proofs.Laws.{emphasized_length}
 use Rattle.vad_row.specs.Rows.{reported}

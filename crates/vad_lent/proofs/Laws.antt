@@ -15,7 +15,6 @@ use Rattle.vad_state.specs.Arrays.{filled_of}
 use Rattle.vad_state.proofs.Fills.{filled_length}
 use Rattle.vad_state.specs.State.{state_of, window_of}
 use Rattle.vad_state.specs.declared.Kept.{Kept}
-use Rattle.vad_state.specs.declared.VadDetector.{VadDetector}
 use Rattle.vad_call.specs.Calls.{joined_of, settled_of}
 use Rattle.vad_call.specs.declared.Detected.{Detected}
 use Rattle.vad_call.specs.declared.Heard.{Heard}

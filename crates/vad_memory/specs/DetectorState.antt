@@ -1,5 +1,5 @@
 -- The detector's state as the host keeps it: numbers of 64 bits and floats, laid out as vad_layout says. A flag is 0 or 1; of a segment zeros stand where none is open.
-use Rattle.std.specs.Prelude.{Bool, true, false, ◌&&◌, cond, List, [], ◌∷◌, ◌++◌, ℕ, leb, eqb, length, take, drop, get_or, Float}
+use Rattle.std.specs.Prelude.{Bool, ◌&&◌, cond, List, [], ◌∷◌, ◌++◌, ℕ, leb, eqb, length, take, drop, get_or, Float}
 use Rattle.std.specs.Float.{nan}
 use Rattle.vad_layout.specs.Layout.{layout_name, numbers_most, floats_most, carry_first, warmup_first}
 use Rattle.lists.specs.Flags.{flag_at, flag_word}

@@ -21,13 +21,26 @@ const ROWS_MOST: usize = 64;
 
 const ROOM: usize = ROWS_MOST * ROW_FIELDS;
 
+// Fills the bytes as far as the input goes.
+fn fill<R: Read>(input: &mut R, bytes: &mut [u8; 4]) -> io::Result<()> {
+    let mut at: usize = 0;
+    for _ in 0..4 {
+        if at == 4 {
+            break;
+        }
+        let n = input.read(&mut bytes[at..])?;
+        if n == 0 {
+            break;
+        }
+        at += n;
+    }
+    Ok(())
+}
+
 // The next word; 0 where the input has ended.
 fn word<R: Read>(input: &mut R) -> io::Result<u32> {
     let mut bytes = [0u8; 4];
-    let mut at: usize = 0;
-    for _ in 0..4 {
-        at += input.read(&mut bytes[at..])?;
-    }
+    fill(input, &mut bytes)?;
     Ok(u32::from_le_bytes(bytes))
 }
 
@@ -95,7 +108,10 @@ fn print_refusal(rt: &impl Print, refusal: Refusal) -> io::Result<()> {
 // Frames, loud, quiet, the floor's bits.
 fn print_tally(rt: &impl Print, tally: Tally) -> io::Result<()> {
     let bits = float::to_bits(tally.noise_floor);
-    print!(rt; "heard {} {} {} {bits:08x}", tally.frames, tally.loud, tally.quiet)
+    print!(rt;
+        "heard {} {} {} {bits:08x}",
+        tally.frames, tally.loud, tally.quiet
+    )
 }
 
 // The open segment's start, which is - where none is open.
@@ -192,12 +208,7 @@ fn resetting<R: Read>(
 }
 
 // The block heard that many times.
-fn paced(
-    mut detector: VadDetector,
-    times: u32,
-    samples: &[f32],
-    rows: &mut [u64],
-) -> VadDetector {
+fn paced(mut detector: VadDetector, times: u32, samples: &[f32], rows: &mut [u64]) -> VadDetector {
     for _ in 0..times {
         detector = vad_detector::detect(detector, samples, rows).detector;
     }

@@ -1,5 +1,4 @@
 use Rattle.dc_door.proofs.Door.{bias_read_lem}
-use borrow.Author.Rules.{rules}
 use Rattle.dc_door.proofs.bias.Goals as goal
 
 pub returns : goal.returns

@@ -3,10 +3,8 @@ use mathlib.Core.Bool.{true}
 use Prim.Native.Nat.{◌≤◌}
 use native.Mathlib.Omega.{arith}
 use lib.ListN.{length}
-use borrow.Author.Tests.{not-true, not-false}
 use Rattle.dc_door.specs.FilterState.{filter_at, readable}
 use Rattle.dc_door.proofs.Door.{long_of, read_as, read_bad}
-use borrow.Author.Rules.{rules}
 use Rattle.dc_door.proofs.filter_at.Goals.{Else-not-well_formed}
 use Rattle.dc_door.proofs.filter_at.Goals as goal
 

@@ -1,7 +1,6 @@
 use mathlib.Core.Path.{◌≡◌, ◌∙◌}
 use native.Mathlib.Omega.{arith}
 use borrow.Author.Tests.{ne_eqb}
-use borrow.Author.Rules.{rules}
 use Rattle.dc_door.proofs.keep.Goals.{Then-number-eq0}
 use Rattle.dc_door.proofs.keep.Goals as goal
 

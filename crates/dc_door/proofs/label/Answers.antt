@@ -1,4 +1,3 @@
-use borrow.Author.Tests.{not-true, not-false}
 use Rattle.dc_door.proofs.label.Goals as goal
 
 pub returns-then-not-has_context : goal.returns-then-not-has_context

@@ -1,6 +1,5 @@
 use native.Mathlib.Omega.{arith}
 use Rattle.dc_door.proofs.Door.{open_short, open_written}
-use borrow.Author.Rules.{rules}
 use Rattle.dc_door.proofs.open.Goals as goal
 
 pub returns-then-state-lt25 : goal.returns-then-state-lt25

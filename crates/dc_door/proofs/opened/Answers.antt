@@ -1,6 +1,5 @@
 use mathlib.Core.Path.{◌∙◌}
 use Rattle.dc_door.proofs.Door.{five_room, five_rest, opened_few, opened_all}
-use borrow.Author.Rules.{rules}
 use Rattle.dc_door.proofs.opened.Goals as goal
 
 pub returns-then-coefficients-lt10 : goal.returns-then-coefficients-lt10

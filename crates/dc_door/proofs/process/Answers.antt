@@ -1,7 +1,6 @@
 use native.Mathlib.Omega.{arith}
 use lib.ListN.{length}
 use Rattle.dc_door.proofs.Door.{block_long, place_fits, process_kept, output_read}
-use borrow.Author.Rules.{rules}
 use Rattle.dc_door.proofs.process.Goals as goal
 
 pub keep-requires : goal.keep-requires

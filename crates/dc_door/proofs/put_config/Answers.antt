@@ -2,7 +2,6 @@ use mathlib.Core.List.{[], ◌∷◌}
 use lib.Dec.{lit≤}
 use mir.Val.{bool_byte}
 use Rattle.dc_door.proofs.Put.{in_place, config_put}
-use borrow.Author.Rules.{rules}
 use Rattle.dc_door.proofs.put_config.Goals as goal
 
 pub bounds-words-1 : goal.bounds-words-1

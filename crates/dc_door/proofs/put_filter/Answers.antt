@@ -1,5 +1,4 @@
 use Rattle.dc_door.proofs.Put.{filter_put}
-use borrow.Author.Rules.{rules}
 use Rattle.dc_door.proofs.put_filter.Goals as goal
 
 pub returns : goal.returns

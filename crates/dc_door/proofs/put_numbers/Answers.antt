@@ -1,6 +1,6 @@
 use mathlib.Core.Path.{◌≡◌, refl, sym, ◌∙◌}
 use mathlib.Core.List.{List, map}
-use Prim.Native.Nat.{ℕ, ◌+◌, ◌≤◌, ◌<◌, ◌-◌}
+use Prim.Native.Nat.{ℕ, ◌+◌, ◌≤◌, ◌<◌}
 use native.Mathlib.Nat.{add-zero}
 use native.Mathlib.Omega.{arith}
 use lib.ListN.{length, drop, get_or, set, length-set, get_or-map}
@@ -9,7 +9,6 @@ use lib.Ieee.{Float, nan}
 use Rattle.lists.proofs.Every.{length_map}
 use Rattle.dc_door.specs.FilterState.{word_of}
 use Rattle.lists.proofs.Stores.{put_step, put_end}
-use borrow.Author.Rules.{rules}
 use Rattle.dc_door.proofs.put_numbers.Goals as goal
 
 -- a turn stores the word of the number that it stands at

@@ -1,6 +1,5 @@
 use lib.Dec.{lit≤}
 use Rattle.dc_door.proofs.Door.{reset_long, reset_kept}
-use borrow.Author.Rules.{rules}
 use Rattle.dc_door.proofs.reset.Goals as goal
 
 pub keep-requires : goal.keep-requires

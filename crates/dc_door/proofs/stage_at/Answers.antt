@@ -1,6 +1,5 @@
 use mathlib.Core.Path.{refl}
 use Rattle.dc_door.specs.FilterState.{stage_at}
-use borrow.Author.Rules.{rules}
 use Rattle.dc_door.proofs.stage_at.Goals as goal
 
 pub returns : goal.returns

@@ -4,7 +4,6 @@ use lib.ListN.{length, get_or}
 use mathlib.Core.Path.{refl}
 use borrow.Author.Tests.{le-leb, lt-leb}
 use Rattle.dc_door.specs.FilterState.{readable}
-use borrow.Author.Rules.{rules}
 use Rattle.dc_door.proofs.well_formed.Goals as goal
 
 pub returns-then-words-lt25 : goal.returns-then-words-lt25

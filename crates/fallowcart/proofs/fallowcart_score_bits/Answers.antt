@@ -1,5 +1,4 @@
 use mathlib.Core.Path.{refl}
-use borrow.Author.Rules.{rules}
 use Rattle.fallowcart.proofs.fallowcart_score_bits.Goals as goal
 
 pub returns : goal.returns

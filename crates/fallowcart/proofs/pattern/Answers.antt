@@ -1,6 +1,5 @@
 use mathlib.Core.Path.{sym, ap, ◌∙◌}
 use Rattle.fallowcart.specs.Pattern.{pattern_of}
-use borrow.Author.Rules.{rules}
 use Rattle.fallowcart.proofs.pattern.Goals as goal
 
 pub returns-in-Finite : goal.returns-in-Finite

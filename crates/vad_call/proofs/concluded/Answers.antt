@@ -2,7 +2,6 @@ use mathlib.Core.Path.{◌≡◌}
 use mathlib.Core.Bool.{true, false}
 use Rattle.vad_call.specs.Calls.{tally_of}
 use Rattle.vad_call.specs.Inside.{refused_hearing, accepted_hearing, hearing_of}
-use borrow.Author.Rules.{rules}
 use Rattle.vad_call.proofs.concluded.Goals as goal
 
 pub returns-then-outcome : goal.returns-then-outcome

@@ -1,6 +1,5 @@
 use mathlib.Core.Path.{◌≡◌}
 use mathlib.Core.Bool.{true, false}
-use borrow.Author.Rules.{rules}
 use Rattle.vad_call.proofs.due_of.Goals as goal
 
 pub returns-then-holds : goal.returns-then-holds

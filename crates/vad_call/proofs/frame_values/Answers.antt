@@ -6,7 +6,6 @@ use lib.Seq.{sets, length-take-le}
 use lib.Ieee.{Float}
 use Rattle.vad_frames.specs.Grid.{energies_of, framed_of}
 use Rattle.lists.proofs.Stores.{from_start}
-use borrow.Author.Rules.{rules}
 use Rattle.vad_call.proofs.frame_values.Goals.{Start}
 use Rattle.vad_call.proofs.frame_values.Goals as goal
 

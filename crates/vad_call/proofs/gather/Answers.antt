@@ -1,5 +1,4 @@
 use Rattle.vad_call.proofs.Calls.{gathered}
-use borrow.Author.Rules.{rules}
 use Rattle.vad_call.proofs.gather.Goals as goal
 
 pub returns : goal.returns

@@ -1,12 +1,11 @@
 use mathlib.Core.Path.{◌≡◌, refl}
-use Prim.Native.Nat.{◌+◌, ◌-◌, ◌/◌, ◌^◌, ◌≤◌, ◌<◌}
+use Prim.Native.Nat.{◌+◌, ◌-◌, ◌/◌, ◌≤◌, ◌<◌}
 use native.Mathlib.Omega.{arith}
 use lib.ListN.{length}
 use Rattle.vad_row.specs.Rows.{row_width, room_of}
 use Rattle.vad_segments.specs.Rooms.{Within, positions_first, counts_first}
 use Rattle.vad_call.specs.Calls.{rows_due, verdict_of, energies_most}
 use Rattle.vad_call.proofs.Calls.{seeded_within, grid_low, verdict_is, rows_more, due_few, needed_due, judged_needed, judged_verdict, judged_refused, judged_fits, reported_refused, reported_accepted}
-use borrow.Author.Rules.{rules}
 use Rattle.vad_call.proofs.hold_or_judge.Goals.{After-classify-classified, After-due_of-due, Else-rows-needed}
 use Rattle.vad_call.proofs.hold_or_judge.Goals as goal
 

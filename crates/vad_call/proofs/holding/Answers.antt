@@ -2,7 +2,6 @@ use mathlib.Core.Path.{◌≡◌}
 use mathlib.Core.Bool.{true, false}
 use borrow.Author.Tests.{not-true, not-false}
 use Rattle.vad_call.specs.Calls.{holding_with}
-use borrow.Author.Rules.{rules}
 use Rattle.vad_call.proofs.holding.Goals as goal
 
 pub returns-then-not-kept : goal.returns-then-not-kept

@@ -1,6 +1,5 @@
 use Rattle.vad_state.specs.State.{window_of}
 use Rattle.vad_call.specs.Calls.{joined_of}
-use borrow.Author.Rules.{rules}
 use Rattle.vad_call.proofs.joined.Goals as goal
 
 pub returns : goal.returns

@@ -1,5 +1,4 @@
 use Rattle.vad_call.specs.Calls.{refused_by}
-use borrow.Author.Rules.{rules}
 use Rattle.vad_call.proofs.refused.Goals as goal
 
 pub returns : goal.returns

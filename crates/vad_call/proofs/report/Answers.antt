@@ -1,11 +1,10 @@
 use mathlib.Core.Path.{◌≡◌}
 use native.Mathlib.Omega.{arith}
-use Prim.Native.Nat.{◌≤◌, ◌^◌}
+use Prim.Native.Nat.{◌≤◌}
 use lib.ListN.{length}
 use Rattle.vad_segments.specs.Rooms.{Within, positions_first, counts_first}
 use Rattle.vad_call.specs.Calls.{rows_due}
 use Rattle.vad_call.proofs.Calls.{seeded_within, grid_low, rows_none, rows_fit, rows_put}
-use borrow.Author.Rules.{rules}
 use Rattle.vad_call.proofs.report.Goals as goal
 
 pub returns-then-needed-eq0 : goal.returns-then-needed-eq0

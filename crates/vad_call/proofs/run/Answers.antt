@@ -1,12 +1,4 @@
-use mathlib.Core.Path.{◌≡◌, refl, sym, ap, ◌∙◌}
-use native.Mathlib.Omega.{arith}
-use lib.ListN.{length}
-use Rattle.lists.proofs.Every.{length_map}
-use Rattle.ranges.specs.Sizes.{frame_most, warmup_most}
-use Rattle.vad_state.specs.State.{state_of}
-use Rattle.vad_state.specs.State.{sound_of}
-use Rattle.vad_state.specs.declared.Kept.{Kept}
-use Rattle.vad_state.specs.declared.VadDetector.{VadDetector}
+use mathlib.Core.Path.{refl, sym, ◌∙◌}
 use Rattle.vad_state.proofs.Parts.{parts, frame_high}
 use borrow.Author.Rules.{rules}
 use Rattle.vad_call.proofs.run.Goals as goal

@@ -3,7 +3,6 @@ use mathlib.Core.Bool.{true, false}
 use borrow.Author.Tests.{not-true, not-false}
 use Rattle.vad_segments.specs.Judging.{floored_to}
 use Rattle.vad_call.specs.Calls.{seeded_of}
-use borrow.Author.Rules.{rules}
 use Rattle.vad_call.proofs.seeded.Goals as goal
 
 pub returns-then-not-kept : goal.returns-then-not-kept

@@ -1,15 +1,9 @@
-use mathlib.Core.Path.{◌≡◌, sym, ◌∙◌}
+use mathlib.Core.Path.{◌≡◌}
 use Prim.Native.Nat.{◌+◌, ◌-◌, ◌≤◌}
-use native.Mathlib.Omega.{arith}
-use lib.ListN.{length, get_or}
-use lib.Ieee.{nan}
-use Rattle.vad_segments.specs.Judging.{frame_at, frames_at, judged_of, track_after, louds_of, count_of}
-use Rattle.vad_segments.proofs.Rooms.{Roomy, roomy_within, roomy_next, track_within}
-use Rattle.vad_segments.proofs.Ordered.{frames_length}
-use Rattle.vad_segments.proofs.Counts.{loud_most}
-use Rattle.vad_classify.proofs.Calls.{classified_is}
-use Rattle.vad_classify.proofs.Turns.{count_le, rest_at, track_step, loud_step, track_end, louds_end}
-use borrow.Author.Rules.{rules}
+use lib.ListN.{length}
+use Rattle.vad_segments.specs.Judging.{track_after, louds_of, count_of}
+use Rattle.vad_segments.proofs.Rooms.{Roomy}
+use Rattle.vad_classify.proofs.Turns.{rest_at}
 use Rattle.vad_classify.proofs.classify.Given as goal
 
 abbrev pub invariant-loop-i : goal.invariant-loop-i

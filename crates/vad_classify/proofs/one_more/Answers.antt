@@ -1,5 +1,4 @@
 use native.Mathlib.Omega.{arith}
-use borrow.Author.Rules.{rules}
 use Rattle.vad_classify.proofs.one_more.Goals as goal
 
 pub returns-then-loud : goal.returns-then-loud

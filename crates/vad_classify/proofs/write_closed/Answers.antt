@@ -1,14 +1,10 @@
 use mathlib.Core.Path.{◌≡◌, sym, ap, ◌∙◌}
-use Prim.Native.Nat.{◌+◌, ◌-◌, ◌≤◌}
 use native.Mathlib.Omega.{arith}
 use lib.ListN.{length, get_or}
-use lib.Seq.{sets}
 use lib.Ieee.{nan}
-use Rattle.vad_row.specs.Rows.{flat}
-use Rattle.vad_segments.specs.Judging.{frame_at, judged_of, track_after, rows_of}
-use Rattle.vad_segments.proofs.Rooms.{Roomy, roomy_within, roomy_next}
-use Rattle.vad_classify.proofs.Turns.{rest_at, track_step, width_step, sets_step, track_end, flat_end}
-use borrow.Author.Rules.{rules}
+use Rattle.vad_segments.specs.Judging.{frame_at, judged_of}
+use Rattle.vad_segments.proofs.Rooms.{roomy_within, roomy_next}
+use Rattle.vad_classify.proofs.Turns.{track_step, width_step, sets_step, track_end, flat_end}
 use Rattle.vad_classify.proofs.write_closed.Goals.{After-judge-judged}
 use Rattle.vad_classify.proofs.write_closed.Goals as goal
 

@@ -6,7 +6,6 @@ use Rattle.vad_row.specs.Rows.{reported, flat}
 use Rattle.vad_segments.specs.Judging.{frames_at}
 use Rattle.vad_segments.proofs.Rooms.{track_within}
 use Rattle.vad_classify.proofs.Calls.{call_width, call_written}
-use borrow.Author.Rules.{rules}
 use Rattle.vad_classify.proofs.write_rows.Goals as goal
 
 pub write_closed-written-requires : goal.write_closed-written-requires

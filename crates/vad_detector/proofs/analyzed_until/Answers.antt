@@ -1,5 +1,4 @@
 use Rattle.vad_detector.specs.Readings.{analyzed_read}
-use borrow.Author.Rules.{rules}
 use Rattle.vad_detector.proofs.analyzed_until.Goals as goal
 
 pub returns : goal.returns

@@ -1,5 +1,4 @@
 use Rattle.vad_state.specs.Arrays.{filled_of}
-use borrow.Author.Rules.{rules}
 use Rattle.vad_detector.proofs.blank.Goals as goal
 
 pub returns : goal.returns

@@ -1,5 +1,4 @@
 use Rattle.vad_detector.specs.Opening.{fresh_of}
-use borrow.Author.Rules.{rules}
 use Rattle.vad_detector.proofs.fresh.Goals as goal
 
 pub returns : goal.returns

@@ -1,6 +1,5 @@
 use mathlib.Core.Path.{sym, ◌∙◌}
 use Rattle.vad_detector.specs.Readings.{floor_read}
-use borrow.Author.Rules.{rules}
 use Rattle.vad_detector.proofs.noise_floor.Goals as goal
 
 pub returns-then-sound : goal.returns-then-sound

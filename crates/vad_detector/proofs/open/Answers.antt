@@ -1,7 +1,6 @@
 use mathlib.Core.Path.{◌≡◌, sym, ◌∙◌}
 use Rattle.vad_detector.specs.Opening.{open_refusal}
 use Rattle.vad_detector.proofs.Answers.{open_refused, open_taken, window_short}
-use borrow.Author.Rules.{rules}
 use Rattle.vad_detector.proofs.open.Goals.{Else-refusal-ne0}
 use Rattle.vad_detector.proofs.open.Goals as goal
 

@@ -1,6 +1,5 @@
 use mathlib.Core.Path.{sym, ap}
 use Rattle.vad_detector.specs.Readings.{open_start}
-use borrow.Author.Rules.{rules}
 use Rattle.vad_detector.proofs.open_start.Goals as goal
 
 pub returns-in-Closed : goal.returns-in-Closed

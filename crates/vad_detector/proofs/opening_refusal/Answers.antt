@@ -1,8 +1,6 @@
 use mathlib.Core.Path.{◌≡◌, sym, ◌∙◌}
-use borrow.Author.Tests.{not-true, not-false}
 use Rattle.vad_config.specs.Settings.{refusal_of}
 use Rattle.vad_detector.proofs.Answers.{refused_settings, refused_handed, refused_none}
-use borrow.Author.Rules.{rules}
 use Rattle.vad_detector.proofs.opening_refusal.Goals.{Else-refusal-ne0}
 use Rattle.vad_detector.proofs.opening_refusal.Goals as goal
 

@@ -1,6 +1,5 @@
 use mathlib.Core.Path.{sym, ◌∙◌}
 use Rattle.vad_detector.specs.Readings.{read_of}
-use borrow.Author.Rules.{rules}
 use Rattle.vad_detector.proofs.read.Goals as goal
 
 pub returns-then-sound : goal.returns-then-sound

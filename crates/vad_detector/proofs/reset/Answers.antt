@@ -1,11 +1,9 @@
 use mathlib.Core.Path.{◌≡◌, sym, ◌∙◌}
 use mathlib.Core.Bool.{true, false}
-use borrow.Author.Tests.{not-true, not-false}
 use Rattle.vad_config.specs.Domain.{start_in}
 use Rattle.refusals.specs.Refusals.{first_of}
 use Rattle.vad_state.specs.State.{sound_of}
 use Rattle.vad_detector.specs.Opening.{reset_of}
-use borrow.Author.Rules.{rules}
 use Rattle.vad_detector.proofs.reset.Goals.{Else-not-sound}
 use Rattle.vad_detector.proofs.reset.Goals as goal
 

@@ -1,5 +1,4 @@
 use Rattle.vad_detector.specs.Readings.{rows_read}
-use borrow.Author.Rules.{rules}
 use Rattle.vad_detector.proofs.rows_reported.Goals as goal
 
 pub returns : goal.returns

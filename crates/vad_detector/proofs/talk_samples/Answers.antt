@@ -1,5 +1,4 @@
 use Rattle.vad_detector.specs.Readings.{talk_read}
-use borrow.Author.Rules.{rules}
 use Rattle.vad_detector.proofs.talk_samples.Goals as goal
 
 pub returns : goal.returns

@@ -1,5 +1,4 @@
 use Rattle.vad_detector.specs.Readings.{undecided_in, undecided_read}
-use borrow.Author.Rules.{rules}
 use Rattle.vad_detector.proofs.undecided_from.Goals as goal
 
 pub returns : goal.returns

@@ -3,7 +3,6 @@ use native.Mathlib.Omega.{arith}
 use borrow.Author.Tests.{eq-eqb, ne_eqb}
 use lib.ListN.{length}
 use Rattle.vad_detector.specs.Opening.{weights_fit}
-use borrow.Author.Rules.{rules}
 use Rattle.vad_detector.proofs.weights_fit.Goals as goal
 
 pub returns-then-window-frame_length : goal.returns-then-window-frame_length

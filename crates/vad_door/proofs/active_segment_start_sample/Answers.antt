@@ -1,5 +1,4 @@
 use Rattle.vad_door.proofs.Door.{segment_read_lem}
-use borrow.Author.Rules.{rules}
 use Rattle.vad_door.proofs.active_segment_start_sample.Goals as goal
 
 pub returns : goal.returns

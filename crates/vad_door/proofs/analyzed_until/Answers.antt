@@ -1,5 +1,4 @@
 use Rattle.vad_door.proofs.Door.{analyzed_read_lem}
-use borrow.Author.Rules.{rules}
 use Rattle.vad_door.proofs.analyzed_until.Goals as goal
 
 pub returns : goal.returns

@@ -1,10 +1,8 @@
 use mathlib.Core.Path.{◌≡◌, sym, ◌∙◌}
 use mathlib.Core.Bool.{true}
 use native.Mathlib.Omega.{arith}
-use borrow.Author.Tests.{not-true, not-false}
 use Rattle.vad_memory.specs.DetectorState.{readable}
 use Rattle.vad_door.proofs.Door.{readable_room, hear_unread, check_carries, check_passed, hear_stopped, hear_ran}
-use borrow.Author.Rules.{rules}
 use Rattle.vad_door.proofs.call.Goals.{Else-not-is_readable}
 use Rattle.vad_door.proofs.call.Goals as goal
 

@@ -1,4 +1,3 @@
-use borrow.Author.Rules.{rules}
 use Rattle.vad_door.proofs.emptied.Goals as goal
 
 pub returns : goal.returns

@@ -1,5 +1,4 @@
 use Rattle.vad_door.proofs.Door.{flush_ends}
-use borrow.Author.Rules.{rules}
 use Rattle.vad_door.proofs.flush.Goals as goal
 
 pub returns : goal.returns

@@ -1,5 +1,4 @@
 use Rattle.vad_door.proofs.Door.{floor_read_lem}
-use borrow.Author.Rules.{rules}
 use Rattle.vad_door.proofs.noise_floor.Goals as goal
 
 pub returns : goal.returns

@@ -1,10 +1,8 @@
 use mathlib.Core.Path.{◌≡◌, sym, ◌∙◌}
 use mathlib.Core.Bool.{true}
 use native.Mathlib.Omega.{arith}
-use borrow.Author.Tests.{not-true, not-false}
 use Rattle.vad_memory.specs.DetectorState.{long_enough}
 use Rattle.vad_door.proofs.Door.{open_short, open_put}
-use borrow.Author.Rules.{rules}
 use Rattle.vad_door.proofs.open.Goals.{Else-not-long_enough}
 use Rattle.vad_door.proofs.open.Goals as goal
 

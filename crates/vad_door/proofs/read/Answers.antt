@@ -1,11 +1,9 @@
 use mathlib.Core.Path.{◌≡◌, sym, ◌∙◌}
 use mathlib.Core.Bool.{true}
 use native.Mathlib.Omega.{arith}
-use borrow.Author.Tests.{not-true, not-false}
 use Rattle.vad_memory.specs.DetectorState.{readable}
 use Rattle.vad_door.proofs.Bounds.{words_small}
 use Rattle.vad_door.proofs.Door.{readable_room, read_unread, read_stopped, read_done}
-use borrow.Author.Rules.{rules}
 use Rattle.vad_door.proofs.read.Goals.{Else-not-is_readable}
 use Rattle.vad_door.proofs.read.Goals as goal
 

@@ -1,11 +1,9 @@
 use mathlib.Core.Path.{◌≡◌, sym, ◌∙◌}
 use mathlib.Core.Bool.{true}
 use native.Mathlib.Omega.{arith}
-use borrow.Author.Tests.{not-true, not-false}
 use Rattle.vad_memory.specs.DetectorState.{readable}
 use Rattle.vad_detector.specs.Run.{Reset, answered}
 use Rattle.vad_door.proofs.Door.{readable_long, call_unread, reset_refused, reset_put}
-use borrow.Author.Rules.{rules}
 use Rattle.vad_door.proofs.reset.Goals.{Else-not-is_readable}
 use Rattle.vad_door.proofs.reset.Goals as goal
 

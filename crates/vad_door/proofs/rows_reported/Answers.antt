@@ -1,5 +1,4 @@
 use Rattle.vad_door.proofs.Door.{rows_read_lem}
-use borrow.Author.Rules.{rules}
 use Rattle.vad_door.proofs.rows_reported.Goals as goal
 
 pub returns : goal.returns

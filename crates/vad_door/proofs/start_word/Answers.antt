@@ -5,7 +5,6 @@ use Rattle.vad_segments.specs.declared.ActiveSegment.{ActiveSegment}
 use Rattle.ranges.specs.Sizes.{received_most}
 use Rattle.vad_detector.specs.Readings.{open_start}
 use Rattle.vad_door.specs.DetectorDoor.{start_word}
-use borrow.Author.Rules.{rules}
 use Rattle.vad_door.proofs.start_word.Goals as goal
 
 pub overflow_add-result : goal.overflow_add-result

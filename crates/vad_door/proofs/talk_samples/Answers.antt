@@ -1,5 +1,4 @@
 use Rattle.vad_door.proofs.Door.{talk_read_lem}
-use borrow.Author.Rules.{rules}
 use Rattle.vad_door.proofs.talk_samples.Goals as goal
 
 pub returns : goal.returns

@@ -1,5 +1,4 @@
 use Rattle.vad_door.proofs.Door.{undecided_read_lem}
-use borrow.Author.Rules.{rules}
 use Rattle.vad_door.proofs.undecided_from.Goals as goal
 
 pub returns : goal.returns

@@ -1,12 +1,10 @@
-use mathlib.Core.Path.{◌≡◌, sym, ap, ◌∙◌}
-use Prim.Native.Nat.{◌<◌, ◌^◌}
+use mathlib.Core.Path.{sym, ap, ◌∙◌}
 use native.Mathlib.Omega.{arith}
 use Rattle.vad_segments.proofs.Undecided.{undecided_le}
 use Rattle.vad_detector.specs.Readings.{open_start}
 use Rattle.vad_door.specs.Inside.{word_of}
 use Rattle.vad_door.specs.declared.Asked.{Asked}
 use Rattle.vad_door.proofs.Bounds.{start_word_small}
-use borrow.Author.Rules.{rules}
 use Rattle.vad_door.proofs.word_of.Goals as goal
 
 pub returns-in-UndecidedFrom : goal.returns-in-UndecidedFrom

@@ -1,9 +1,8 @@
-use mathlib.Core.Path.{sym, ap, ◌∙◌}
+use mathlib.Core.Path.{ap, ◌∙◌}
 use lib.ListN.{length}
 use Rattle.vad_state.specs.declared.VadDetector.{VadDetector}
 use Rattle.vad_call.specs.Checks.{check_of}
 use Rattle.vad_lent.proofs.Laws.{parts_long, state_lent}
-use borrow.Author.Rules.{rules}
 use Rattle.vad_lent.proofs.check_at.Goals as goal
 
 pub check-requires : goal.check-requires

@@ -6,7 +6,6 @@ use Rattle.vad_state.proofs.Parts.{parts, frame_high}
 use Rattle.vad_call.specs.Calls.{ran_of, written_of, settled_of}
 use Rattle.vad_lent.specs.Lent.{state_at}
 use Rattle.vad_lent.proofs.Laws.{parts_long, state_lent, ran_refusal, ran_tally, ran_arrays}
-use borrow.Author.Rules.{rules}
 use Rattle.vad_lent.proofs.hear_at.Goals.{After-warmup_in}
 use Rattle.vad_lent.proofs.hear_at.Goals as goal
 

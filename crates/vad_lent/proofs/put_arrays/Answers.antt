@@ -1,5 +1,4 @@
 use Rattle.vad_lent.proofs.Laws.{three_put}
-use borrow.Author.Rules.{rules}
 use Rattle.vad_lent.proofs.put_arrays.Goals as goal
 
 pub returns : goal.returns

@@ -1,8 +1,7 @@
-use mathlib.Core.Path.{sym, ap, ◌∙◌}
+use mathlib.Core.Path.{ap, ◌∙◌}
 use lib.ListN.{length}
 use Rattle.vad_state.specs.State.{sound_of}
 use Rattle.vad_lent.proofs.Laws.{parts_long, state_lent}
-use borrow.Author.Rules.{rules}
 use Rattle.vad_lent.proofs.sound_at.Goals as goal
 
 pub sound_lent-requires : goal.sound_lent-requires

@@ -3,7 +3,6 @@ use native.Mathlib.Omega.{arith}
 use borrow.Author.Tests.{ne_eqb}
 use Rattle.vad_layout.proofs.InNumbers as in-numbers
 use Rattle.vad_memory.specs.DetectorState.{word_at, active_at}
-use borrow.Author.Rules.{rules}
 use Rattle.vad_memory.proofs.active_at.Goals as goal
 
 pub returns-then-numbers-eq1 : goal.returns-then-numbers-eq1

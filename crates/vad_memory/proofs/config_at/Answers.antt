@@ -2,7 +2,6 @@ use mathlib.Core.Path.{refl}
 use Rattle.vad_memory.specs.DetectorState.{config_at}
 use Rattle.vad_memory.proofs.Parts.{within}
 use mathlib.Core.Path.{refl}
-use borrow.Author.Rules.{rules}
 use Rattle.vad_memory.proofs.config_at.Goals as goal
 
 pub bounds-numbers-5 : goal.bounds-numbers-5

@@ -1,6 +1,5 @@
 use mathlib.Core.Path.{refl}
 use Rattle.vad_memory.specs.DetectorState.{lengths_at}
-use borrow.Author.Rules.{rules}
 use Rattle.vad_memory.proofs.lengths_at.Goals as goal
 
 pub returns : goal.returns

@@ -1,7 +1,6 @@
 use mathlib.Core.Path.{refl}
 use Rattle.lists.proofs.Flags.{flag_byte}
 use Rattle.vad_memory.specs.DetectorState.{tally_numbers, rule_numbers, stream_numbers, active_numbers, desk_numbers, numbers_of}
-use borrow.Author.Rules.{rules}
 use Rattle.vad_memory.proofs.numbers_of.Goals as goal
 
 pub returns : goal.returns

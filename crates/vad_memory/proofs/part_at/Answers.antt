@@ -1,6 +1,5 @@
 use mathlib.Core.Path.{◌∙◌}
 use Rattle.vad_memory.proofs.Parts.{part_filled}
-use borrow.Author.Rules.{rules}
 use Rattle.vad_memory.proofs.part_at.Goals as goal
 
 pub returns : goal.returns

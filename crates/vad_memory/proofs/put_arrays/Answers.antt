@@ -1,4 +1,3 @@
-use borrow.Author.Rules.{rules}
 use Rattle.vad_memory.proofs.put_arrays.Goals as goal
 
 pub returns : goal.returns

@@ -1,5 +1,4 @@
 use Rattle.vad_memory.proofs.Put.{put_from}
-use borrow.Author.Rules.{rules}
 use Rattle.vad_memory.proofs.put_floats.Goals as goal
 
 pub returns : goal.returns

@@ -1,6 +1,5 @@
 use mathlib.Core.Path.{refl}
 use Rattle.vad_memory.specs.DetectorState.{rules_at}
-use borrow.Author.Rules.{rules}
 use Rattle.vad_memory.proofs.rules_at.Goals as goal
 
 pub returns : goal.returns

@@ -1,6 +1,5 @@
 use mathlib.Core.Path.{refl}
 use Rattle.vad_memory.specs.DetectorState.{segment_at}
-use borrow.Author.Rules.{rules}
 use Rattle.vad_memory.proofs.segment_at.Goals as goal
 
 pub returns : goal.returns

@@ -1,7 +1,6 @@
 use mathlib.Core.Path.{sym, ap}
 use Rattle.vad_segments.specs.Judging.{begun_at, segment_for}
 use Rattle.vad_memory.specs.DetectorState.{open_word, shown_of}
-use borrow.Author.Rules.{rules}
 use Rattle.vad_memory.proofs.segment_of.Goals as goal
 
 pub returns-in-Closed : goal.returns-in-Closed

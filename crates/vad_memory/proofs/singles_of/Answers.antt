@@ -1,6 +1,5 @@
 use mathlib.Core.Path.{refl}
 use Rattle.vad_memory.specs.DetectorState.{singles_of}
-use borrow.Author.Rules.{rules}
 use Rattle.vad_memory.proofs.singles_of.Goals as goal
 
 pub returns : goal.returns

@@ -1,6 +1,5 @@
 use mathlib.Core.Path.{◌∙◌}
 use Rattle.vad_memory.proofs.Parts.{warmup_filled}
-use borrow.Author.Rules.{rules}
 use Rattle.vad_memory.proofs.warmup_at.Goals as goal
 
 pub returns : goal.returns

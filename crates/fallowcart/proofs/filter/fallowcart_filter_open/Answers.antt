@@ -1,4 +1,3 @@
-use borrow.Author.Rules.{rules}
 use Rattle.fallowcart.proofs.filter.fallowcart_filter_open.Goals as goal
 
 pub returns : goal.returns

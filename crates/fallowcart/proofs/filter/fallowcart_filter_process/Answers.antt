@@ -1,4 +1,3 @@
-use borrow.Author.Rules.{rules}
 use Rattle.fallowcart.proofs.filter.fallowcart_filter_process.Goals as goal
 
 pub returns : goal.returns

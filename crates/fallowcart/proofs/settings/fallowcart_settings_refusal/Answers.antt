@@ -1,5 +1,4 @@
 use mathlib.Core.Path.{ap, ◌∙◌}
-use borrow.Author.Rules.{rules}
 use Rattle.vad_config.specs.Settings.{refusal_of}
 use Rattle.fallowcart.proofs.settings.fallowcart_settings_refusal.Goals as goal
 

@@ -1,6 +1,6 @@
 use mathlib.Core.Path.{◌≡◌}
 use mathlib.Core.Bool.{false}
-use Prim.Native.Nat.{◌+◌, ◌^◌, ◌≤◌, ◌<◌}
+use Prim.Native.Nat.{◌+◌, ◌≤◌, ◌<◌}
 use native.Mathlib.Omega.{arith}
 use borrow.Author.Tests.{lt-ltb, le-ltb, le-leb, lt-leb}
 use lib.Dec.{ltb}
@@ -9,7 +9,6 @@ use Rattle.refusals.specs.Refusals.{first_of}
 use Rattle.ranges.specs.Ranges.{clean_of}
 use Rattle.vad_config.specs.Domain.{received_in}
 use Rattle.ranges.specs.Sizes.{block_most, received_most}
-use borrow.Author.Rules.{rules}
 use Rattle.vad_call.proofs.checks.block_refusal.Goals.{Else-place-samples, Else-samples-gt-BLOCK_MOST}
 use Rattle.vad_call.proofs.checks.block_refusal.Goals as goal
 

@@ -1,13 +1,11 @@
 use mathlib.Core.Path.{◌≡◌, sym, ◌∙◌}
 use mathlib.Core.Bool.{true}
 use native.Mathlib.Omega.{arith}
-use borrow.Author.Tests.{not-true, not-false}
 use Rattle.refusals.specs.Refusals.{first_of}
 use Rattle.vad_state.specs.State.{state_of, sound_of}
 use Rattle.vad_state.specs.declared.VadDetector.{VadDetector}
 use Rattle.vad_state.proofs.Parts.{parts}
 use Rattle.vad_call.specs.Checks.{check_of}
-use borrow.Author.Rules.{rules}
 use Rattle.vad_call.proofs.checks.check.Goals.{Else-not-sound_lent, Start}
 use Rattle.vad_call.proofs.checks.check.Goals as goal
 
