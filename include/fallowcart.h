@@ -1,5 +1,5 @@
 /*
- * Fallowcart: a voice detector and a high-pass filter for long recordings, proved in Rattle. The library is target/staticlib/libfallowcart.a, for x86-64; of
+ * Fallowcart: a voice detector and a high-pass filter for long recordings, proved in Rattle. The library is crates/fallowcart/out/libfallowcart.a, for x86-64; of
  * other libraries it needs memcpy and memset alone.
  *
  * - Every function answers every input: any number, any length, any content of the memory that it is lent. It allocates nothing, keeps nothing

@@ -5,14 +5,15 @@ import functools
 import pathlib
 import re
 
-from sources import CRATES, ROOT, closing, functions, imports, split, without_comments
+from sources import CRATES, ROOT, closing, crates, functions, imports, split, without_comments
 
 WORD = r"(?:«[^»]*»|[^\s(){}.;,@\"«»]+)"
-TOKEN = re.compile(rf"(?<![\w»)}}])\.{WORD}|{WORD}(?:\.{WORD})*|[(){{}}.;,@]")
+TOKEN = re.compile(rf"(?<=\))(?:\.{WORD})+|{WORD}(?:\.{WORD})*|[(){{}}.;,@]")
 MODIFIERS = {"pub", "unfoldable", "abbrev"}
 MARKS = set("(){}.;,@")
 RESERVED = MARKS | set("λ → ↔ × : = _ let in elim record where unfold unfolding Type ← ⌜ ⌝ rw simp search grw cc omega".split())
-PRELUDE = {"Unit", "tt", "⊥", "absurd", "¬", "Dec", "yes", "no", "now"}  # open in every file, or in every contract
+PRELUDE = {"Unit", "tt", "⊥", "absurd", "¬", "Dec", "yes", "no"}  # open in every file
+HELD = {"now", "old", "new"}  # what a contract reads of a reference
 
 
 class Unresolved(Exception):
@@ -41,8 +42,8 @@ def plain(name):
 
 
 def spellings(name):
-    """How a name is written: `_≡_` also as `≡`."""
-    return {name, *(filter(None, name.split("_")) if not name.startswith("«") else [])}
+    """How a name is written: `◌≡◌` also as `≡`."""
+    return {name, *(filter(None, name.split("◌")) if "◌" in name else [])}
 
 
 class Scope:
@@ -200,14 +201,14 @@ def sources(crate):
 
 def find(path, name):
     """The item that a module declares under a name; of the kit's modules the path and the name."""
-    inside = re.fullmatch(r"Rattle·(\w+?)(?:·\w+)?\.(specs|proofs)\.(.+)", path)
-    if not inside:
+    inside = re.fullmatch(r"Rattle\.(\w+)\.(specs|proofs)\.(.+)", path)
+    if not inside or inside[1] not in crates():
         return path, name
     crate, folder, rest = inside.groups()
     if rest.startswith("declared."):
-        kind = rest.removesuffix(".the-variants").split(".")[-1]
+        kind = rest.removesuffix(".TheVariants").split(".")[-1]
         found = next((one.items[kind] for one in sources(crate) if kind in one.items), None)
-        known = found and (name in found.members if rest.endswith(".the-variants") else name == kind)
+        known = found and (name in found.members if rest.endswith(".TheVariants") else name == kind)
     else:
         file = CRATES / crate / folder / pathlib.Path(*rest.split(".")).with_suffix(".antt")
         found = known = file.exists() and module(file).items.get(name)
@@ -237,12 +238,18 @@ class Reader:
 
     def name(self, name):
         """A name in a term: bound in the text, or an item, or the kit's."""
-        if name in RESERVED or name[0].isdigit() or any(plain(name.partition(".")[0]) in frame for frame in self.frames):
+        if name in RESERVED or name[0].isdigit():
             return
-        found = self.find(name)
+        first, *looked = name.split(".")
+        bound = any(plain(first) in frame for frame in self.frames)
+        found = bound or self.find(name)
         if not found:
             raise Unresolved(f"{name} in {self.place.file.relative_to(ROOT)}")
-        self.cite(found)
+        variant = isinstance(found, Item) and found.kind == "enum"
+        if not variant and first not in self.place.scope.modules:
+            self.fields.update(map(plain, looked))
+        if not bound:
+            self.cite(found)
 
     def pattern(self, words):
         """The names of a pattern: constructors are cited, others bound. A kit's name is taken for a constructor."""
@@ -273,7 +280,7 @@ class Reader:
             elif word == "in":
                 self.bind([self.lets.pop()])
             elif word[0] == "." and len(word) > 1:
-                self.fields.add(plain(word[1:]))
+                self.fields.update(map(plain, word[1:].split(".")))
             else:
                 self.name(word)
             at += 1
@@ -371,7 +378,7 @@ def cited_by(item):
 
 def cited_by_statement(crate, file, name):
     """What the statement of a law of proofs/ cites."""
-    item = find(f"Rattle·{crate}.proofs.{file}", name)
+    item = find(f"Rattle.{crate}.proofs.{file}", name)
     reader = Reader(item.place)
     reader.within(item.section)
     reader.signature(item)
@@ -381,7 +388,7 @@ def cited_by_statement(crate, file, name):
 def cited_by_contract(function):
     """What the contract of a function cites: its clauses, and the types of what it takes and answers."""
     place = source(function.file)
-    reader = Reader(place, function.params)
+    reader = Reader(place, [*function.params, "result"])
     for clause in function.requires + function.ensures:
         reader.scoped(reader.term, tokens(clause))
     for found in place.types(" ".join([*function.params.values(), function.result])):

@@ -71,9 +71,8 @@ def score(bits):
 def source(table):
     rows = "".join(f"    0x{n >> 16:04x}_{n & 0xFFFF:04x},\n" for n in table)
     return f"""// Made by tools/score_table.py.
-ghost use Prim.Native.Nat.{{ℕ, _≤_}};
-ghost use lib.ListN.{{getD}};
-ghost use Rattle·score·specs.specs.Score.{{Threshold}};
+ghost use Rattle.std.specs.Prelude.{{ℕ, ◌≤◌, get_or}};
+ghost use Rattle.score.specs.Score.{{Threshold}};
 
 // Entry k: the bits of the least f32 above 0 whose 1,024th power reaches 10^k.
 const THRESHOLDS: [u32; {len(table)}] = [
@@ -81,7 +80,7 @@ const THRESHOLDS: [u32; {len(table)}] = [
 
 // The only function that names the table: whoever reads several entries asks once, since a constant is written out where it stands.
 pub(crate) fn table() -> [u32; {len(table)}]
-    ensures {{ λ r. ⌜ ((k : ℕ) → k ≤ {TOP} → Threshold k (getD r k 0)) ⌝ }}
+    ensures {{ (k : ℕ) → k ≤ {TOP} → Threshold k (get_or result k 0) }}
 {{
     THRESHOLDS
 }}
@@ -94,16 +93,16 @@ def proof(table):
     out = [
         """-- Made by tools/score_table.py: the table of src/thresholds.rt in parts, each with the computed test of its entries, and the rule at every entry.
 -- Assumes nothing.
-use mathlib.Core.Path.{_≡_, refl}
-use mathlib.Core.List.{List, [], _∷_, _++_}
-use Prim.Native.Nat.{ℕ, _≤_}
+use mathlib.Core.Path.{◌≡◌, refl}
+use mathlib.Core.List.{List, [], ◌∷◌, ◌++◌}
+use Prim.Native.Nat.{ℕ, ◌≤◌}
 use native.Mathlib.Omega.{arith}
 use lib.Dec.{T}
-use lib.Ieee.{ofBits}
-use lib.ListN.{length, getD}
-use Rattle·score·specs.specs.Score.{Threshold, reaches}
-use Rattle·score·proofs.proofs.Table.{every, every-append, entry-of}
-use Rattle·score·proofs.proofs.Bits.{least, least-is}
+use lib.Ieee.{of_bits}
+use lib.ListN.{length, get_or}
+use Rattle.score.specs.Score.{Threshold, reaches}
+use Rattle.score.proofs.Table.{every, every_append, entry_of}
+use Rattle.score.proofs.Bits.{least, least_is}
 """
     ]
     for i, (name, start) in enumerate(zip(names, starts)):
@@ -113,7 +112,7 @@ use Rattle·score·proofs.proofs.Bits.{least, least-is}
 {name} = {entries} ∷ []
 
 ok{i} : T (every least {start} {name})
-unfolding {name} reaches ofBits
+unfolding {name} reaches of_bits
 ok{i} = tt
 """
         )
@@ -123,7 +122,7 @@ ok{i} = tt
         whole = f"{names[i]} ++ {rest}"
         out.append(
             f"""from{i} : T (every least {starts[i]} ({whole}))
-from{i} = every-append least {names[i]} {rest} {starts[i]} {starts[i + 1]} (unfold {names[i]} in refl) ok{i} {passed}
+from{i} = every_append least {names[i]} {rest} {starts[i]} {starts[i + 1]} (unfold {names[i]} in refl) ok{i} {passed}
 """
         )
         rest, passed = f"({whole})", f"from{i}"
@@ -135,9 +134,9 @@ long : length table ≡ {len(table)}
 unfolding table {" ".join(names)}
 long = refl
 
-pub rule : (k : ℕ) → k ≤ {TOP} → Threshold k (getD table k 0)
+pub rule : (k : ℕ) → k ≤ {TOP} → Threshold k (get_or table k 0)
 unfolding table
-rule k h = least-is k (getD table k 0) (entry-of least table {passed} k (rw long (omega arith)))
+rule k h = least_is k (get_or table k 0) (entry_of least table {passed} k (rw long (omega arith)))
 """
     )
     return "\n".join(out)

@@ -16,16 +16,16 @@ OPEN, CLOSE = "([{", ")]}"
 def kit():
     """The kit's folder."""
     guide = subprocess.run(["rt", "doc"], check=True, capture_output=True, text=True).stdout.strip()
-    return pathlib.Path(guide).parent.parent
+    return pathlib.Path(guide).parent
 
 
 def crates():
     """The crates of crates.txt, each with those that it stands on."""
     listed = {}
     for line in (ROOT / "crates.txt").read_text().splitlines():
-        name, colon, deps = line.split("#")[0].partition(":")
+        said, colon, deps = line.split("#")[0].partition(":")
         if colon:
-            listed[name.strip()] = deps.split()
+            listed[said.split()[0]] = deps.split()
     return listed
 
 
