@@ -16,6 +16,10 @@ PRELUDE = {"Unit", "tt", "⊥", "absurd", "¬", "Dec", "yes", "no"}  # open in e
 HELD = {"now", "old", "new"}  # what a contract reads of a reference
 
 
+# std's own, which every file knows
+STD = {"Option", "Result"}
+
+
 class Unresolved(Exception):
     """A name that leads nowhere."""
 
@@ -105,7 +109,7 @@ class Module:
                 item.text += "\n" + code
             comment = []
         self.headings += len(comment)
-        self.scope = Scope([line for line in uses if re.match(r"(?:pub )?use ", line)])
+        self.scope = Scope([line.removeprefix("unfoldable ") for line in uses if re.match(r"(?:unfoldable )?(?:pub )?use ", line)])
         for item in self.own():
             item.members = members(item)
             if item.kind == "data":
@@ -182,6 +186,8 @@ class Source:
     def types(self, text):
         """The structs and enums that a text of types names, and the constants that an array's length is."""
         for path in re.findall(r"(?:\w+::)*\b[A-Z]\w*", text):
+            if path in STD:
+                continue
             *owner, name = self.uses.get(path, path).split("::")
             places = (tuple(owner), (*self.here, *owner))
             found = [one.items[name] for crate in {self.here[0], *owner[:1]} for one in sources(crate) if one.here in places and name in one.items]
@@ -211,7 +217,7 @@ def find(path, name):
         known = found and (name in found.members if rest.endswith(".TheVariants") else name == kind)
     else:
         file = CRATES / crate / folder / pathlib.Path(*rest.split(".")).with_suffix(".antt")
-        found = known = file.exists() and module(file).items.get(name)
+        found = known = file.exists() and (module(file).items.get(name) or module(file).scope.find(name))
     if not known:
         raise Unresolved(f"{path} has no {name}")
     return found

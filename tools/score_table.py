@@ -71,18 +71,18 @@ def score(bits):
 def source(table):
     rows = "".join(f"    0x{n >> 16:04x}_{n & 0xFFFF:04x},\n" for n in table)
     return f"""// Made by tools/score_table.py.
-ghost use Rattle.std.specs.Prelude.{{ℕ, ◌≤◌, get_or}};
+ghost use Rattle.std.specs.Prelude.{{◌≡◌, ℕ, ◌≤◌, get_or, length}};
 ghost use Rattle.score.specs.Score.{{Threshold}};
 
 // Entry k: the bits of the least f32 above 0 whose 1,024th power reaches 10^k.
-const THRESHOLDS: [u32; {len(table)}] = [
+static THRESHOLDS: [u32; {len(table)}] = [
 {rows}];
 
-// The only function that names the table: whoever reads several entries asks once, since a constant is written out where it stands.
-pub(crate) fn table() -> [u32; {len(table)}]
-    ensures {{ (k : ℕ) → k ≤ {TOP} → Threshold k (get_or result k 0) }}
+pub(crate) fn table() -> &'static [u32]
+    ensures len {{ length result.now ≡ {len(table)} }}
+    ensures entries {{ (k : ℕ) → k ≤ {TOP} → Threshold k (get_or result.now k 0) }}
 {{
-    THRESHOLDS
+    &THRESHOLDS
 }}
 """
 

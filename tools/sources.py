@@ -108,7 +108,7 @@ def resolved(path, here):
 
 
 def calls(body, here, names):
-    """The paths that the calls of a body may stand for: a name that was imported, one of this module, one of another crate."""
+    """The paths that the calls of a body may stand for: a name that was imported, one of this module, one of another crate; of a method `.name`."""
     found = set()
     for path in re.findall(r"(?<![\w.:])((?:\w+::)*\w+)\(", body):
         first, _, rest = path.partition("::")
@@ -116,7 +116,7 @@ def calls(body, here, names):
             found.add(f"{names[first]}::{rest}" if rest else names[first])
         else:
             found |= {resolved(path, here), "::".join([*here, path])}
-    return found
+    return found | {"." + name for name in re.findall(r"\.(\w+)\(", body)}
 
 
 def functions(crate):
@@ -127,8 +127,8 @@ def functions(crate):
         module = [part for part in parts if part not in ("lib", "main", "mod")]
         here = [crate, *module]
         names = imports(text, here)
-        impls = [(found.end() - 1, closing(text, found.end() - 1), found[1]) for found in re.finditer(r"^impl (\w+) \{", text, re.M)]
-        for found in re.finditer(r"^[ \t]*(pub )?(?:pub\(\w+\) )?(?:extern \"C\" )?fn (\w+)(?:<[^>]*>)?\(", text, re.M):
+        impls = [(found.end() - 1, closing(text, found.end() - 1), found[1]) for found in re.finditer(r"^impl(?:<[^>]*>)? (?:[^{]* for )?(\w+)(?:<[^>]*>)? \{", text, re.M)]
+        for found in re.finditer(r"^[ \t]*(pub )?(?:pub\(\w+\) )?(?:extern \"C\" )?fn (\w+)(?:<(?:->|[^>])*>)?\(", text, re.M):
             last = closing(text, found.end() - 1)
             at = last + 1
             result = re.match(r"\s*->\s*(.*?)(?=\s*(?:\b(?:requires|ensures|ghost)\b|\{))", text[at:], re.S)

@@ -1,10 +1,11 @@
 -- From call to call: after an accepted call the state holds the very filter that dc_highpass has answered, so a run through the door is a run of the filter.
 -- Assumes nothing.
+use Rattle.std.specs.Prelude.{None, Option, Some, Ok, Err, is_ok}
 use mathlib.Core.Path.{◌≡◌, refl}
 use mathlib.Core.Bool.{Bool, true, false, not, ◌&&◌, cond}
 use mathlib.Core.List.{List, [], ◌∷◌}
 use Prim.Native.Nat.{ℕ, zero, suc, ◌+◌, ◌≤◌}
-use lib.Dec.{T, ltb, eqb}
+use lib.Dec.{T, ltb}
 use lib.ListN.{length, get_or}
 use lib.Ieee.{Float, nan, binary32, fits}
 use lib.Ieee.Scale.{finite}
@@ -12,23 +13,24 @@ use lib.Ieee.Fits.{and_l, and_r, cond-fits, nan-fits, sub-fits}
 use lib.Ieee.Bits.{of_bits-fits}
 use borrow.Author.Tests.{le-ltb}
 use Rattle.float.specs.Fused.{fused_of}
-use Rattle.float.specs.declared.Rounded.{Rounded}
-use Rattle.float.specs.declared.Rounded.TheVariants.{Finite, Nothing}
 use Rattle.float.proofs.Bounds.{fused_fits}
 use Rattle.lists.proofs.Tests.{either}
+use Rattle.refusals.specs.Refusals.{number_in}
+use Rattle.refusals.specs.declared.Refusal.TheVariants as why
+use Rattle.refusals.proofs.First.{none_refused}
 use Rattle.dc_state.specs.Biquad.{or_nan, output_of, next_of, stepped}
-use Rattle.dc_state.specs.Settings.{sound_of, refusal_of}
+use Rattle.dc_state.specs.Settings.{outcome_of, sound_of}
 use Rattle.dc_state.specs.Operations.{centred_of}
 use Rattle.dc_state.specs.declared.biquad.Biquad.{Biquad}
 use Rattle.dc_state.specs.declared.HighpassOrder.{HighpassOrder}
 use Rattle.dc_state.specs.declared.HighpassOrder.TheVariants.{SecondOrder, FourthOrder}
 use Rattle.dc_state.specs.declared.PreprocessingConfig.{PreprocessingConfig}
 use Rattle.dc_state.specs.declared.DcHighPassFilter.{DcHighPassFilter}
-use Rattle.dc_highpass.specs.Filter.{coefficients_of, still, fresh_of, nothing_open, open_of, is_empty, listens, bias_of, biased_of, staged_by, pass_of, after_of, check_of, stop_of, ran_of, process_of, reset_of}
+use Rattle.dc_highpass.specs.Filter.{Passed, coefficients_of, still, fresh_of, nothing_open, open_of, is_empty, listens, bias_of, biased_of, staged_by, pass_of, after_of, check_of, stop_of, ran_of, process_of, reset_of}
 use Rattle.dc_highpass.specs.declared.VadContext.{VadContext}
 use Rattle.dc_highpass.specs.declared.Opened.{Opened}
 use Rattle.dc_highpass.specs.declared.Processed.{Processed}
-use Rattle.dc_highpass.specs.declared.Passed.{Passed}
+use Rattle.dc_highpass.proofs.Calls.{either_way}
 use Rattle.dc_door.specs.FilterState.{filter_at, readable, written}
 use Rattle.dc_door.specs.FilterDoor.{five_at, opened_of, open_state, process_state, reset_state}
 use Rattle.dc_door.proofs.RoundTrip.{Fit, StageFits, FilterFits, written_back, written_readable, read_fits}
@@ -40,9 +42,9 @@ all_fit (x ∷ xs) = fits binary32 x && all_fit xs
 
 -- ---- the filter's numbers stay f32s
 
-or_nan_fit : (x y z : Float) (r : Rounded) → fused_of x y z ≡ r → Fit (or_nan r)
-or_nan_fit x y z (Finite v) p = fused_fits x y z v p
-or_nan_fit x y z Nothing p = nan-fits binary32
+or_nan_fit : (x y z : Float) (r : Option Float) → fused_of x y z ≡ r → Fit (or_nan r)
+or_nan_fit x y z (Some v) p = fused_fits x y z v p
+or_nan_fit x y z None p = nan-fits binary32
 
 output_fit : (b : Biquad) (x : Float) → Fit (output_of b.coeffs b.state x)
 unfolding output_of
@@ -82,22 +84,23 @@ after_fits (x ∷ xs) f h k =
     let p = pass_fits f x h (and_l (fits binary32 x) (all_fit xs) k) in
     either FilterFits (finite (pass_of f x).output) (after_of (pass_of f x).filter xs) f (after_fits xs (pass_of f x).filter p (and_r (fits binary32 x) (all_fit xs) k)) h
 
-biased_fits : (f : DcHighPassFilter) (xs : List Float) (label : VadContext) → FilterFits f → FilterFits (biased_of f xs label)
+biased_fits : (f : DcHighPassFilter) (xs : List Float) (label : Option VadContext) → FilterFits f → FilterFits (biased_of f xs label)
 unfolding biased_of bias_of
 biased_fits f xs label h =
     either FilterFits (f.config.enable_dc_removal && (not (is_empty xs) && listens label)) _ f
     (record { cutoff = h.cutoff; alpha = h.alpha; first = h.first; second = h.second; bias = or_nan_fit _ _ _ _ refl }) h
 
-module _ (f : DcHighPassFilter) (h : FilterFits f) (xs : List Float) (k : T (all_fit xs)) (label : VadContext) (room : ℕ) where
+module _ (f : DcHighPassFilter) (h : FilterFits f) (xs : List Float) (k : T (all_fit xs)) (label : Option VadContext) (room : ℕ) where
   ran_fits : (g : DcHighPassFilter) → FilterFits g → FilterFits (ran_of f g xs).filter
   unfolding ran_of
-  ran_fits g l = either FilterFits (eqb (stop_of g xs).number 0) (after_of g xs) f (after_fits xs g l k) h
+  ran_fits g l = either_way FilterFits (stop_of g xs) (after_of g xs) (λ r. f) (after_fits xs g l k) (λ r. h)
 
   process_fits : FilterFits (process_of f xs label room).filter
   unfolding process_of
   process_fits =
-      either (λ (p : Processed). FilterFits p.filter) (eqb (check_of f xs room).number 0) (ran_of f (biased_of f xs label) xs) (record { refusal = check_of f xs room; filter = f })
-      (ran_fits (biased_of f xs label) (biased_fits f xs label h)) h
+      either_way (λ (p : Processed). FilterFits p.filter) (check_of f xs room) (ran_of f (biased_of f xs label) xs) (λ r. record { outcome = Err r; filter = f })
+      (ran_fits (biased_of f xs label) (biased_fits f xs label h))
+      (λ r. h)
 
 fresh_fits : (f : DcHighPassFilter) → FilterFits f → FilterFits (fresh_of f.config f.first.coeffs f.second.coeffs)
 unfolding fresh_of
@@ -116,7 +119,7 @@ fresh_fits f h =
 reset_fits : (f : DcHighPassFilter) → FilterFits f → FilterFits (reset_of f).filter
 unfolding reset_of
 reset_fits f h =
-    either (λ (p : Opened). FilterFits p.filter) (sound_of f) (record { refusal = 0; filter = fresh_of f.config f.first.coeffs f.second.coeffs }) (record { refusal = 27; filter = f }) (fresh_fits f h) h
+    either (λ (p : Opened). FilterFits p.filter) (sound_of f) (record { outcome = Ok tt; filter = fresh_of f.config f.first.coeffs f.second.coeffs }) (record { outcome = Err why.FilterState; filter = f }) (fresh_fits f h) h
 
 -- ---- an opened filter's numbers, from the settings and the coefficients
 
@@ -161,11 +164,11 @@ module _ (c : PreprocessingConfig) (l : Fit c.highpass_cutoff_hz) (m : Fit c.dc_
 
   open_fits : FilterFits (open_of c (five_at xs 0 ∷ five_at xs 5 ∷ [])).filter
   unfolding open_of
-  open_fits = either FilterFits (eqb (refusal_of c (coefficients_of (five_at xs 0)) (coefficients_of (five_at xs 5))) 0) _ nothing_open new_fits none_fits
+  open_fits = either_way FilterFits (outcome_of c (coefficients_of (five_at xs 0)) (coefficients_of (five_at xs 5))) _ (λ r. nothing_open) new_fits (λ r. none_fits)
 
   opened_fits : FilterFits (opened_of c xs).filter
   unfolding opened_of
-  opened_fits = either (λ (p : Opened). FilterFits p.filter) (ltb (length xs) 10) (record { refusal = 24; filter = nothing_open }) (open_of c (five_at xs 0 ∷ five_at xs 5 ∷ [])) none_fits open_fits
+  opened_fits = either (λ (p : Opened). FilterFits p.filter) (ltb (length xs) 10) (record { outcome = Err why.FilterCoefficient; filter = nothing_open }) (open_of c (five_at xs 0 ∷ five_at xs 5 ∷ [])) none_fits open_fits
 
   -- ---- through the door
 
@@ -183,21 +186,21 @@ kept false f ws good = good
 
 module _ (ws : List ℕ) (good : readable ws ≡ true) where
   -- no call turns a state that can be read into one that cannot
-  pub process_readable : (xs : List Float) (label : VadContext) (room : ℕ) → readable (process_state ws xs label room) ≡ true
+  pub process_readable : (xs : List Float) (label : Option VadContext) (room : ℕ) → readable (process_state ws xs label room) ≡ true
   unfolding process_state
   process_readable xs label room =
-      kept (readable ws && eqb (process_of (filter_at ws) xs label room).refusal.number 0) (process_of (filter_at ws) xs label room).filter ws good
+      kept (readable ws && is_ok (process_of (filter_at ws) xs label room).outcome) (process_of (filter_at ws) xs label room).filter ws good
 
   pub reset_readable : readable (reset_state ws) ≡ true
   unfolding reset_state
-  reset_readable = kept (readable ws && eqb (reset_of (filter_at ws)).refusal 0) (reset_of (filter_at ws)).filter ws good
+  reset_readable = kept (readable ws && is_ok (reset_of (filter_at ws)).outcome) (reset_of (filter_at ws)).filter ws good
 
-  pub process_carried : (xs : List Float) → T (all_fit xs) → (label : VadContext) (room : ℕ) → (process_of (filter_at ws) xs label room).refusal.number ≡ 0
+  pub process_carried : (xs : List Float) → T (all_fit xs) → (label : Option VadContext) (room : ℕ) → number_in (process_of (filter_at ws) xs label room).outcome ≡ 0
       → filter_at (process_state ws xs label room) ≡ (process_of (filter_at ws) xs label room).filter
   unfolding process_state
   process_carried xs k label room z =
-      rw (good, z) (written_back (process_of (filter_at ws) xs label room).filter ws (process_fits (filter_at ws) (read_fits ws) xs k label room))
+      rw (good, none_refused _ z) (written_back (process_of (filter_at ws) xs label room).filter ws (process_fits (filter_at ws) (read_fits ws) xs k label room))
 
-  pub reset_carried : (reset_of (filter_at ws)).refusal ≡ 0 → filter_at (reset_state ws) ≡ (reset_of (filter_at ws)).filter
+  pub reset_carried : number_in (reset_of (filter_at ws)).outcome ≡ 0 → filter_at (reset_state ws) ≡ (reset_of (filter_at ws)).filter
   unfolding reset_state
-  reset_carried z = rw (good, z) (written_back (reset_of (filter_at ws)).filter ws (reset_fits (filter_at ws) (read_fits ws)))
+  reset_carried z = rw (good, none_refused _ z) (written_back (reset_of (filter_at ws)).filter ws (reset_fits (filter_at ws) (read_fits ws)))

@@ -1,5 +1,5 @@
-pub mod Put
 pub mod Places
+pub mod Read
 pub mod Door
 pub mod RoundTrip
 pub mod Carried

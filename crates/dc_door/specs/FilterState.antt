@@ -2,15 +2,15 @@
 --   0 cutoff, 1 rate, 2 alpha, 3 removal on, 4 high-pass on, 5 order (0 second, 1 fourth)
 --   6 to 14 stage one, 15 to 23 stage two: b0 b1 b2 a1 a2, then x1 x2 y1 y2
 --   24 the bias
-use Rattle.std.specs.Prelude.{Bool, true, false, ◌&&◌, List, [], ◌∷◌, ◌++◌, ℕ, ◌+◌, leb, length, drop, get_or, Float}
+use Rattle.std.specs.Prelude.{Bool, ◌&&◌, List, [], ◌∷◌, ◌++◌, ℕ, ◌+◌, leb, length, drop, get_or, Float}
 use Rattle.std.specs.Float.{binary32}
 use Rattle.std.specs.Float.Ieee.{of_bits, to_bits}
 use Rattle.lists.specs.Flags.{flag_at, flag_word}
+-- the order from a flag, and as a word
+pub use Rattle.dc_state.specs.Orders.{order_of, order_word}
 use Rattle.dc_state.specs.declared.biquad.Biquad.{Biquad}
 use Rattle.dc_state.specs.declared.biquad.BiquadCoefficients.{BiquadCoefficients}
 use Rattle.dc_state.specs.declared.biquad.BiquadState.{BiquadState}
-use Rattle.dc_state.specs.declared.HighpassOrder.{HighpassOrder}
-use Rattle.dc_state.specs.declared.HighpassOrder.TheVariants.{SecondOrder, FourthOrder}
 use Rattle.dc_state.specs.declared.PreprocessingConfig.{PreprocessingConfig}
 use Rattle.dc_state.specs.declared.DcHighPassFilter.{DcHighPassFilter}
 
@@ -18,10 +18,6 @@ use Rattle.dc_state.specs.declared.DcHighPassFilter.{DcHighPassFilter}
 
 abbrev pub number_at : List ℕ → ℕ → Float
 number_at ws i = of_bits binary32 (get_or ws i 0)
-
-abbrev pub order_of : Bool → HighpassOrder
-order_of false = SecondOrder
-order_of true = FourthOrder
 
 unfoldable pub coefficients_at : List ℕ → ℕ → BiquadCoefficients
 coefficients_at ws i =
@@ -56,10 +52,6 @@ readable ws = leb 25 (length ws) && (leb (get_or ws 3 0) 1 && (leb (get_or ws 4 
 -- every NaN has the same word
 abbrev pub word_of : Float → ℕ
 word_of x = to_bits binary32 x
-
-abbrev pub order_word : HighpassOrder → ℕ
-order_word SecondOrder = 0
-order_word FourthOrder = 1
 
 unfoldable pub config_words : PreprocessingConfig → List ℕ
 config_words c =

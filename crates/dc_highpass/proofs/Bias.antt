@@ -1,4 +1,5 @@
 -- The new bias is a finite number, so that no bias refuses a block: of an f32 alpha and a finite f32 bias, over a block of the domain. Assumes nothing.
+use Rattle.std.specs.Prelude.{Option}
 use mathlib.Core.Path.{◌≡◌, refl, sym, ap, subst, ◌∙◌}
 use mathlib.Core.Bool.{true, false}
 use mathlib.Core.Logic.{⊎_elim}
@@ -14,7 +15,6 @@ use lib.Ieee.Scale.{finite}
 use lib.Ieee.Fits.{down_pos}
 use lib.Ieee.Bits.{is_true}
 use Rattle.float.specs.Fused.{fused_of}
-use Rattle.float.specs.declared.Rounded.{Rounded}
 use Rattle.float.specs.Numbers.{zero32 as +0, one32}
 use Rattle.float.proofs.Sticky.{side}
 use Rattle.lists.proofs.Tests.{both}
@@ -80,7 +80,7 @@ blend_size B D h = le_trans (mul-le-mul_right D (omega arith)) (le_of_eq (same B
     same B D = simp (mul-one, mul_assoc, mul_left_comm)
 
 found : (w b z : Float) (n k : ℕ) → Yields (fused_of w b z) (λ v. Mag v n k) → finite (or_nan (fused_of w b z)) ≡ true
-found w b z n k y = ap (λ (r : Rounded). finite (or_nan r)) y.1 ∙ is_true (finite y.0) (mag_finite y.0 n k y.3)
+found w b z n k y = ap (λ (r : Option Float). finite (or_nan r)) y.1 ∙ is_true (finite y.0) (mag_finite y.0 n k y.3)
 
 blend : (w b z : Float) → T (fits binary32 b) → T (finite b) → Mag w 16777215 16777216 → Mag z 131072 1 → finite (or_nan (fused_of w b z)) ≡ true
 blend w nan z u t h g = absurd t

@@ -1,18 +1,20 @@
 -- What a call answers and leaves in the output, way by way. Assumes nothing.
-use mathlib.Core.Path.{◌≡◌, refl, sym, ◌∙◌}
+use Rattle.std.specs.Prelude.{Option, Result, Ok, Err, ⊤}
+use mathlib.Core.Path.{◌≡◌, sym, ◌∙◌}
 use mathlib.Core.Bool.{Bool, true, false, cond}
 use mathlib.Core.List.{List, [], ◌∷◌, ◌++◌, append_assoc}
 use Prim.Native.Nat.{ℕ, ◌-◌, ◌≤◌, ◌<◌}
 use native.Mathlib.Nat.{zero-add}
 use native.Mathlib.Omega.{arith}
-use borrow.Author.Tests.{not-false, lt-ltb, le-ltb, ltb-false, ne_eqb}
+use borrow.Author.Tests.{not-false, lt-ltb, le-ltb, ltb-false}
 use lib.ListN.{length, drop, replicate, length-append, length-replicate}
 use lib.Seq.{sets}
 use lib.Ieee.{Float}
 use lib.Ieee.Scale.{finite}
-use Rattle.refusals.specs.Refusals.{refusal, accepted, first_of}
+use Rattle.refusals.specs.Refusals.{first_of, if_passed}
 use Rattle.refusals.specs.declared.Refusal.{Refusal}
-use Rattle.refusals.proofs.First.{passed, none_held}
+use Rattle.refusals.specs.declared.Refusal.TheVariants as why
+use Rattle.refusals.proofs.First.{passed}
 use Rattle.float.specs.Numbers.{zero32}
 use Rattle.ranges.specs.Ranges.{clean_of}
 use Rattle.dc_state.specs.Settings.{sound_of}
@@ -21,6 +23,11 @@ use Rattle.dc_highpass.specs.Filter.{biased_of, pass_of, results_of, after_of, c
 use Rattle.dc_highpass.specs.declared.VadContext.{VadContext}
 use Rattle.dc_highpass.specs.declared.Processed.{Processed}
 use Rattle.lists.proofs.Stores.{sets_append, sets_all}
+
+-- what holds of both ways on from a check, holds of the one that is taken
+pub either_way : {A : Type 0} (P : A → Type 0) (v : Result ⊤ Refusal) (a : A) (f : Refusal → A) → P a → ((r : Refusal) → P (f r)) → P (if_passed v a f)
+either_way P (Ok x) a f h k = h
+either_way P (Err r) a f h k = k r
 
 pub results_le : (f : DcHighPassFilter) (xs : List Float) → length (results_of f xs) ≤ length xs
 unfolding results_of
@@ -37,21 +44,19 @@ pub record Checked (f : DcHighPassFilter) (xs : List Float) (room : ℕ) : Type 
   pub short : length xs ≤ 1024
   pub fits : length xs ≤ room
   pub clean : length xs ≤ clean_of xs
-  pub none : check_of f xs room ≡ accepted
 
-pub checked : (f : DcHighPassFilter) (xs : List Float) (room : ℕ) → (check_of f xs room).number ≡ 0 → Checked f xs room
+pub checked : (f : DcHighPassFilter) (xs : List Float) (room : ℕ) → check_of f xs room ≡ Ok tt → Checked f xs room
 unfolding check_of
 checked f xs room h =
-    let p27 = passed _ _ refl h in
-    let p15 = passed _ _ p27.1.0 p27.1.1 in
-    let p25 = passed _ _ p15.1.0 p15.1.1 in
-    let p16 = passed _ _ p25.1.0 p25.1.1 in
+    let p27 = passed _ _ h in
+    let p15 = passed _ _ p27.1 in
+    let p25 = passed _ _ p15.1 in
+    let p16 = passed _ _ p25.1 in
     record {
       sound = not-false _ p27.0;
       short = ltb-false _ _ p15.0;
       fits = ltb-false _ _ p25.0;
       clean = ltb-false _ _ p16.0;
-      none = none_held _ refl h;
     }
 
 -- what `run` and `clear` write one after the other
@@ -66,11 +71,11 @@ written ys n out h k =
 -- ---- a block that is taken
 
 module _ (given f : DcHighPassFilter) (xs : List Float) (n : ℕ) (c : n ≡ length (results_of f xs)) where
-  pub ran_stuck : n < length xs → record { refusal = refusal 26 n; filter = given } ≡ ran_of given f xs
+  pub ran_stuck : n < length xs → record { outcome = Err (why.FilterOverflow n); filter = given } ≡ ran_of given f xs
   unfolding ran_of stop_of first_of
   ran_stuck l = rw (← c, lt-ltb n (length xs) l)
 
-  pub ran_done : length xs ≤ n → (h : DcHighPassFilter) → h ≡ after_of f xs → record { refusal = accepted; filter = h } ≡ ran_of given f xs
+  pub ran_done : length xs ≤ n → (h : DcHighPassFilter) → h ≡ after_of f xs → record { outcome = Ok tt; filter = h } ≡ ran_of given f xs
   unfolding ran_of stop_of first_of
   ran_done l h a = rw (← a, ← c, le-ltb n (length xs) l)
 
@@ -83,20 +88,20 @@ module _ (given f : DcHighPassFilter) (xs : List Float) (n : ℕ) (c : n ≡ len
 
 -- ---- the whole call
 
-module _ (f : DcHighPassFilter) (xs : List Float) (label : VadContext) (room : ℕ) (r : Refusal) (e : r ≡ check_of f xs room) where
-  pub answer_refused : (r.number ≡ 0 → ⊥) → record { refusal = r; filter = f } ≡ process_of f xs label room
+module _ (f : DcHighPassFilter) (xs : List Float) (label : Option VadContext) (room : ℕ) where
+  pub answer_refused : (r : Refusal) → check_of f xs room ≡ Err r → record { outcome = Err r; filter = f } ≡ process_of f xs label room
   unfolding process_of
-  answer_refused z = rw (← e, ne_eqb r.number 0 z)
+  answer_refused r e = rw e
 
-  pub answer_ran : r.number ≡ 0 → (g : DcHighPassFilter) → g ≡ biased_of f xs label → (p : Processed) → p ≡ ran_of f g xs → p ≡ process_of f xs label room
+  pub answer_ran : check_of f xs room ≡ Ok tt → (g : DcHighPassFilter) → g ≡ biased_of f xs label → (p : Processed) → p ≡ ran_of f g xs → p ≡ process_of f xs label room
   unfolding process_of
-  answer_ran z g b p h = h ∙ rw (← e, z, b)
+  answer_ran e g b p h = h ∙ rw (e, b)
 
-module _ (f : DcHighPassFilter) (xs : List Float) (label : VadContext) (out : List Float) where
-  pub output_refused : ((check_of f xs (length out)).number ≡ 0 → ⊥) → out ≡ output_after f xs label out
+module _ (f : DcHighPassFilter) (xs : List Float) (label : Option VadContext) (out : List Float) where
+  pub output_refused : (r : Refusal) → check_of f xs (length out) ≡ Err r → out ≡ output_after f xs label out
   unfolding output_after
-  output_refused z = rw (ne_eqb (check_of f xs (length out)).number 0 z)
+  output_refused r e = rw e
 
-  pub output_ran : (check_of f xs (length out)).number ≡ 0 → (g : DcHighPassFilter) → g ≡ biased_of f xs label → (last : List Float) → last ≡ written_of (results_of g xs) (length xs) out → last ≡ output_after f xs label out
+  pub output_ran : check_of f xs (length out) ≡ Ok tt → (g : DcHighPassFilter) → g ≡ biased_of f xs label → (last : List Float) → last ≡ written_of (results_of g xs) (length xs) out → last ≡ output_after f xs label out
   unfolding output_after
-  output_ran z g b last h = h ∙ rw (z, b)
+  output_ran e g b last h = h ∙ rw (e, b)

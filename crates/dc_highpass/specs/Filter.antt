@@ -1,16 +1,19 @@
 -- The filter of document 01: opening, a block, reset, the bias.
-use Rattle.std.specs.Prelude.{Bool, true, false, not, ◌&&◌, cond, List, [], ◌∷◌, ◌++◌, ℕ, ◌-◌, ltb, eqb, length, drop, replicate, get_or, pos, Float}
-use Rattle.std.specs.Float.{nan, binary32}
+use Rattle.std.specs.Prelude.{Bool, true, false, not, ◌&&◌, cond, List, [], ◌∷◌, ◌++◌, ℕ, ◌-◌, ltb, length, drop, replicate, get_or, pos, Float, None, Option, Some, Result, Ok, Err, ⊤}
+use Rattle.std.specs.Float.{binary32}
 use Rattle.std.specs.Float.Ieee.{of_int, add, sub, mul, div, neg}
 use Rattle.std.specs.Float.Ieee.Scale.{finite}
-use Rattle.refusals.specs.Refusals.{bare, carrying, first_of}
+use Rattle.refusals.specs.Refusals.{refusing, first_of, if_passed}
 use Rattle.refusals.specs.declared.Refusal.{Refusal}
+use Rattle.refusals.specs.declared.Refusal.TheVariants as why
 use Rattle.float.specs.Numbers.{zero32, one32}
 use Rattle.float.specs.Fused.{fused_of}
 use Rattle.ranges.specs.Ranges.{clean_of}
 use Rattle.ranges.specs.Sizes.{block_most}
 use Rattle.dc_state.specs.Biquad.{or_nan, stepped, heard}
-use Rattle.dc_state.specs.Settings.{refusal_of, sound_of}
+-- five numbers in the order b0, b1, b2, a1, a2
+unfoldable pub use Rattle.dc_state.specs.Biquad.{coefficients_of}
+use Rattle.dc_state.specs.Settings.{outcome_of, sound_of}
 use Rattle.dc_state.specs.Operations.{centred_of}
 use Rattle.dc_state.specs.declared.biquad.BiquadCoefficients.{BiquadCoefficients}
 use Rattle.dc_state.specs.declared.biquad.BiquadState.{BiquadState}
@@ -19,17 +22,11 @@ use Rattle.dc_state.specs.declared.HighpassOrder.TheVariants.{SecondOrder, Fourt
 use Rattle.dc_state.specs.declared.PreprocessingConfig.{PreprocessingConfig}
 use Rattle.dc_state.specs.declared.DcHighPassFilter.{DcHighPassFilter}
 use Rattle.dc_highpass.specs.declared.VadContext.{VadContext}
-use Rattle.dc_highpass.specs.declared.VadContext.TheVariants.{Unlabelled, Silence, Speech}
+use Rattle.dc_highpass.specs.declared.VadContext.TheVariants.{Silence, Speech}
 use Rattle.dc_highpass.specs.declared.Opened.{Opened}
 use Rattle.dc_highpass.specs.declared.Processed.{Processed}
-use Rattle.dc_highpass.specs.declared.Passed.{Passed}
-use Rattle.dc_highpass.specs.declared.Reading.{Reading}
 
 -- ---- opening
-
--- five numbers in the order b0, b1, b2, a1, a2
-unfoldable pub coefficients_of : List Float → BiquadCoefficients
-coefficients_of a = record { b0 = get_or a 0 nan; b1 = get_or a 1 nan; b2 = get_or a 2 nan; a1 = get_or a 3 nan; a2 = get_or a 4 nan }
 
 abbrev pub still : BiquadState
 still = record { x1 = zero32; x2 = zero32; y1 = zero32; y2 = zero32 }
@@ -59,16 +56,16 @@ unfoldable pub open_of : PreprocessingConfig → List (List Float) → Opened
 open_of c a =
     let first = coefficients_of (get_or a 0 []) in
     let second = coefficients_of (get_or a 1 []) in
-    let n = refusal_of c first second in
-    record { refusal = n; filter = cond (eqb n 0) (fresh_of c first second) nothing_open }
+    let v = outcome_of c first second in
+    record { outcome = v; filter = if_passed v (fresh_of c first second) (λ r. nothing_open) }
 
 -- ---- a block: bias, subtraction, stages
 
 -- 'when removal is on, the block isn't empty and is silent or unlabelled'
-abbrev pub listens : VadContext → Bool
-listens Unlabelled = true
-listens Silence = true
-listens Speech = false
+abbrev pub listens : Option VadContext → Bool
+listens None = true
+listens (Some Silence) = true
+listens (Some Speech) = false
 
 abbrev pub is_empty : List Float → Bool
 is_empty [] = true
@@ -86,11 +83,16 @@ mean_of xs = div binary32 (sum_from (neg zero32) xs) (of_int binary32 (pos (leng
 unfoldable pub bias_of : Float → Float → List Float → Float
 bias_of alpha bias xs = or_nan (fused_of alpha bias (mul binary32 (sub binary32 one32 alpha) (mean_of xs)))
 
-unfoldable pub biased_of : DcHighPassFilter → List Float → VadContext → DcHighPassFilter
+unfoldable pub biased_of : DcHighPassFilter → List Float → Option VadContext → DcHighPassFilter
 biased_of f xs label =
     cond (f.config.enable_dc_removal && (not (is_empty xs) && listens label))
     record { config = f.config; first = f.first; second = f.second; dc_bias = bias_of f.config.dc_bias_alpha f.dc_bias xs }
     f
+
+-- the filter after one sample, and the sample's result, which need not be finite
+pub record Passed : Type 0 where
+  pub filter : DcHighPassFilter
+  pub output : Float
 
 -- 'passes the stages in order'; 'second order never reads the second'
 unfoldable pub staged_by : HighpassOrder → DcHighPassFilter → Float → Passed
@@ -121,41 +123,40 @@ after_of f (x ∷ xs) = let p = pass_of f x in cond (finite p.output) (after_of 
 -- ---- process
 
 -- 'Filter 27, 15, 25, 16', which come before anything is written
-unfoldable pub check_of : DcHighPassFilter → List Float → ℕ → Refusal
+unfoldable pub check_of : DcHighPassFilter → List Float → ℕ → Result ⊤ Refusal
 check_of f xs room =
     first_of (
-    bare 27 (not (sound_of f))
-    ∷ bare 15 (ltb block_most (length xs))
-    ∷ bare 25 (ltb room (length xs))
-    ∷ carrying 16 (clean_of xs) (ltb (clean_of xs) (length xs))
+    refusing why.FilterState (not (sound_of f))
+    ∷ refusing why.Block (ltb block_most (length xs))
+    ∷ refusing why.FilterOutput (ltb room (length xs))
+    ∷ refusing (why.Sample (clean_of xs)) (ltb (clean_of xs) (length xs))
     ∷ []
     )
 
 -- '26': a sample without a finite result; carries its place
-unfoldable pub stop_of : DcHighPassFilter → List Float → Refusal
-stop_of f xs = first_of (carrying 26 (length (results_of f xs)) (ltb (length (results_of f xs)) (length xs)) ∷ [])
+unfoldable pub stop_of : DcHighPassFilter → List Float → Result ⊤ Refusal
+stop_of f xs = first_of (refusing (why.FilterOverflow (length (results_of f xs))) (ltb (length (results_of f xs)) (length xs)) ∷ [])
 
 -- after it 'the filter state, bias included, is the one given'
 unfoldable pub ran_of : DcHighPassFilter → DcHighPassFilter → List Float → Processed
-ran_of given f xs = let r = stop_of f xs in record { refusal = r; filter = cond (eqb r.number 0) (after_of f xs) given }
+ran_of given f xs = let v = stop_of f xs in record { outcome = v; filter = if_passed v (after_of f xs) (λ r. given) }
 
-unfoldable pub process_of : DcHighPassFilter → List Float → VadContext → ℕ → Processed
+unfoldable pub process_of : DcHighPassFilter → List Float → Option VadContext → ℕ → Processed
 process_of f xs label room =
-    let r = check_of f xs room in
-    cond (eqb r.number 0) (ran_of f (biased_of f xs label) xs) (record { refusal = r; filter = f })
+    if_passed (check_of f xs room) (ran_of f (biased_of f xs label) xs) (λ r. record { outcome = Err r; filter = f })
 
 -- the results, zeros to the block's length where one is missing, and the old contents beyond
 unfoldable pub written_of : List Float → ℕ → List Float → List Float
 written_of ys n out = ys ++ (replicate (n - length ys) zero32 ++ drop n out)
 
-unfoldable pub output_after : DcHighPassFilter → List Float → VadContext → List Float → List Float
-output_after f xs label out = cond (eqb (check_of f xs (length out)).number 0) (written_of (results_of (biased_of f xs label) xs) (length xs) out) out
+unfoldable pub output_after : DcHighPassFilter → List Float → Option VadContext → List Float → List Float
+output_after f xs label out = if_passed (check_of f xs (length out)) (written_of (results_of (biased_of f xs label) xs) (length xs) out) (λ r. out)
 
 -- ---- reset, and the bias read
 
 unfoldable pub reset_of : DcHighPassFilter → Opened
 reset_of f =
-    cond (sound_of f) (record { refusal = 0; filter = fresh_of f.config f.first.coeffs f.second.coeffs }) (record { refusal = 27; filter = f })
+    cond (sound_of f) (record { outcome = Ok tt; filter = fresh_of f.config f.first.coeffs f.second.coeffs }) (record { outcome = Err why.FilterState; filter = f })
 
-unfoldable pub bias_read : DcHighPassFilter → Reading
-bias_read f = cond (sound_of f) (record { refusal = 0; value = f.dc_bias }) (record { refusal = 27; value = zero32 })
+unfoldable pub bias_read : DcHighPassFilter → Result Float Refusal
+bias_read f = cond (sound_of f) (Ok f.dc_bias) (Err why.FilterState)

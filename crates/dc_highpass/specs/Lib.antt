@@ -1,3 +1,2 @@
 pub mod Filter
 pub mod Run
-pub mod Inside

@@ -5,7 +5,7 @@ use Prim.Native.Nat.{ℕ}
 use lib.Ieee.{binary32, of_bits, of_int, le, lt, div, neg, round}
 use Rattle.refusals.specs.Refusals.{first_of}
 use Rattle.ranges.specs.Ranges.{rate_in}
-use Rattle.dc_state.specs.Settings.{setting_refusals, refusal_of, stage_taken, stages_taken}
+use Rattle.dc_state.specs.Settings.{setting_refusals, outcome_of, refusal_of, stage_taken, stages_taken}
 use Rattle.dc_state.specs.declared.biquad.BiquadCoefficients.{BiquadCoefficients}
 use Rattle.dc_state.specs.declared.HighpassOrder.{HighpassOrder}
 use Rattle.dc_state.specs.declared.HighpassOrder.TheVariants.{SecondOrder, FourthOrder}
@@ -41,7 +41,7 @@ pub stages_in_use :
     (refusal_of (settings 0x42A0_0000 16000 0x3F73_3333 true true SecondOrder) plain missing ≡ 0)
     × (refusal_of (settings 0x42A0_0000 16000 0x3F73_3333 true true FourthOrder) plain missing ≡ 24)
     × (refusal_of (settings 0x42A0_0000 16000 0x3F73_3333 true false SecondOrder) missing plain ≡ 24)
-unfolding refusal_of setting_refusals first_of rate_in stages_taken stage_taken of_bits le lt div of_int neg round
+unfolding refusal_of outcome_of setting_refusals first_of rate_in stages_taken stage_taken of_bits le lt div of_int neg round
 stages_in_use = (refl, refl, refl)
 
 -- 8,000 and 48,000 are in the domain, their neighbours outside are not
@@ -50,7 +50,7 @@ pub rate_edges :
     × (refusal_of (settings 0x42A0_0000 8000 0x3F73_3333 true true SecondOrder) plain plain ≡ 0)
     × (refusal_of (settings 0x42A0_0000 48000 0x3F73_3333 true true SecondOrder) plain plain ≡ 0)
     × (refusal_of (settings 0x42A0_0000 48001 0x3F73_3333 true true SecondOrder) plain plain ≡ 20)
-unfolding refusal_of setting_refusals first_of rate_in stages_taken stage_taken of_bits le lt div of_int neg round
+unfolding refusal_of outcome_of setting_refusals first_of rate_in stages_taken stage_taken of_bits le lt div of_int neg round
 rate_edges = (refl, refl, refl, refl)
 
 -- a cutoff that is NaN, infinite, the float below 20, and 20; half the rate, and the float below
@@ -61,7 +61,7 @@ pub cutoff_edges :
     × (refusal_of (settings 0x41A0_0000 16000 0x3F73_3333 true true SecondOrder) plain plain ≡ 0)
     × (refusal_of (settings 0x45FA_0000 16000 0x3F73_3333 true true SecondOrder) plain plain ≡ 22)
     × (refusal_of (settings 0x45F9_FFFF 16000 0x3F73_3333 true true SecondOrder) plain plain ≡ 0)
-unfolding refusal_of setting_refusals first_of rate_in stages_taken stage_taken of_bits le lt div of_int neg round
+unfolding refusal_of outcome_of setting_refusals first_of rate_in stages_taken stage_taken of_bits le lt div of_int neg round
 cutoff_edges = (refl, refl, refl, refl, refl, refl)
 
 -- alpha 0, −0, 1 and NaN; the floats next to 0 and 1
@@ -72,14 +72,14 @@ pub alpha_edges :
     × (refusal_of (settings 0x42A0_0000 16000 0x7FC0_0000 true true SecondOrder) plain plain ≡ 23)
     × (refusal_of (settings 0x42A0_0000 16000 1 true true SecondOrder) plain plain ≡ 0)
     × (refusal_of (settings 0x42A0_0000 16000 0x3F7F_FFFF true true SecondOrder) plain plain ≡ 0)
-unfolding refusal_of setting_refusals first_of rate_in stages_taken stage_taken of_bits le lt div of_int neg round
+unfolding refusal_of outcome_of setting_refusals first_of rate_in stages_taken stage_taken of_bits le lt div of_int neg round
 alpha_edges = (refl, refl, refl, refl, refl, refl)
 
 -- the ends of 24's ranges are in them, −0 too
 pub range_ends :
     (refusal_of (settings 0x42A0_0000 16000 0x3F73_3333 true true SecondOrder) (stage 0x3F80_0000 0xC000_0000 0x8000_0000 0x4000_0000 0xBF80_0000) missing ≡ 0)
     × (refusal_of (settings 0x42A0_0000 16000 0x3F73_3333 true true SecondOrder) (stage 0 0x8000_0000 0x3F80_0000 0xC000_0000 0x3F80_0000) missing ≡ 0)
-unfolding refusal_of setting_refusals first_of rate_in stages_taken stage_taken of_bits le lt div of_int neg round
+unfolding refusal_of outcome_of setting_refusals first_of rate_in stages_taken stage_taken of_bits le lt div of_int neg round
 range_ends = (refl, refl)
 
 -- the floats past them are not: b0 above and below, b1, b2, a1, a2
@@ -94,5 +94,5 @@ pub range_edges :
     × (refusal_of (settings 0x42A0_0000 16000 0x3F73_3333 true true SecondOrder) (stage 0x3F00_0000 0xBF80_0000 0x3F00_0000 0xC000_0001 0) missing ≡ 24)
     × (refusal_of (settings 0x42A0_0000 16000 0x3F73_3333 true true SecondOrder) (stage 0x3F00_0000 0xBF80_0000 0x3F00_0000 0 0x3F80_0001) missing ≡ 24)
     × (refusal_of (settings 0x42A0_0000 16000 0x3F73_3333 true true SecondOrder) (stage 0x3F00_0000 0xBF80_0000 0x3F00_0000 0 0xBF80_0001) missing ≡ 24)
-unfolding refusal_of setting_refusals first_of rate_in stages_taken stage_taken of_bits le lt div of_int neg round
+unfolding refusal_of outcome_of setting_refusals first_of rate_in stages_taken stage_taken of_bits le lt div of_int neg round
 range_edges = (refl, refl, refl, refl, refl, refl, refl, refl, refl, refl)

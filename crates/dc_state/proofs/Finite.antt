@@ -4,11 +4,19 @@ use mathlib.Core.Bool.{Bool, true, false, cond, true≢false}
 use mathlib.Core.List.{List, [], ◌∷◌, ◌++◌}
 use lib.Ieee.{Float, nan, inf, fin, binary32, add, sub, mul, neg}
 use lib.Ieee.Scale.{finite}
+use Rattle.std.specs.Float.{float_is_finite}
 use Rattle.float.specs.Fused.{fused_of}
 use Rattle.lists.proofs.Tests.{both}
 use Rattle.dc_state.specs.Biquad.{or_nan, output_of, heard}
 use Rattle.dc_state.specs.Operations.{stage_results, every_finite}
 use Rattle.dc_state.specs.declared.biquad.Biquad.{Biquad}
+
+-- the library's word for it
+pub same : (x : Float) → float_is_finite x ≡ finite x
+unfolding float_is_finite
+same nan = refl
+same (inf s) = refl
+same (fin s m e) = refl
 
 not_finite : {A : Type 0} → false ≡ true → A
 not_finite h = absurd (true≢false (sym h))

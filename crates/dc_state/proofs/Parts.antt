@@ -1,15 +1,24 @@
 -- What a sound state is, part by part, and a stage's part of it over one sample. Assumes nothing.
-use mathlib.Core.Path.{◌≡◌}
+use mathlib.Core.Path.{◌≡◌, sym}
 use mathlib.Core.Bool.{true, ◌&&◌}
 use lib.Dec.{eqb}
 use lib.Ieee.{Float}
 use lib.Ieee.Scale.{finite}
+use Rattle.std.specs.Prelude.{is_ok}
+use Rattle.refusals.proofs.First.{ok_tells}
 use Rattle.lists.proofs.Tests.{both}
 use Rattle.dc_state.specs.Biquad.{next_of, heard}
-use Rattle.dc_state.specs.Settings.{refusal_of, remembers_finite, sound_of}
+use Rattle.dc_state.specs.Settings.{outcome_of, refusal_of, remembers_finite, sound_of}
 use Rattle.dc_state.specs.declared.biquad.Biquad.{Biquad}
+use Rattle.dc_state.specs.declared.biquad.BiquadCoefficients.{BiquadCoefficients}
+use Rattle.dc_state.specs.declared.PreprocessingConfig.{PreprocessingConfig}
 use Rattle.dc_state.specs.declared.DcHighPassFilter.{DcHighPassFilter}
 use Rattle.dc_state.proofs.Finite.{stage_passes}
+
+-- as code asks whether settings are taken
+pub taken_tells : (c : PreprocessingConfig) (first second : BiquadCoefficients) → is_ok (outcome_of c first second) ≡ eqb (refusal_of c first second) 0
+unfolding refusal_of
+taken_tells c first second = sym (ok_tells (outcome_of c first second))
 
 pub record Parts (f : DcHighPassFilter) : Type 0 where
   pub settings : eqb (refusal_of f.config f.first.coeffs f.second.coeffs) 0 ≡ true

@@ -1,18 +1,19 @@
 -- Two answers that meet a contract are equal: each contract is an equation.
 use mathlib.Core.Path.{◌≡◌}
 use mathlib.Core.Bool.{Bool}
-use Prim.Native.Nat.{ℕ}
 use lib.Ieee.{Float}
+use Rattle.std.specs.Prelude.{Result, ⊤}
+use Rattle.refusals.specs.declared.Refusal.{Refusal}
 use Rattle.float.specs.Fused.{fused_of}
 use Rattle.float.proofs.Unique.{only}
 use Rattle.dc_state.specs.Biquad.{or_nan, output_of, next_of}
-use Rattle.dc_state.specs.Settings.{refusal_of, sound_of}
+use Rattle.dc_state.specs.Settings.{outcome_of, sound_of}
 use Rattle.dc_state.specs.declared.biquad.BiquadCoefficients.{BiquadCoefficients}
 use Rattle.dc_state.specs.declared.biquad.BiquadState.{BiquadState}
 use Rattle.dc_state.specs.declared.PreprocessingConfig.{PreprocessingConfig}
 use Rattle.dc_state.specs.declared.DcHighPassFilter.{DcHighPassFilter}
 
-pub validate_unique : (c : PreprocessingConfig) (first second : BiquadCoefficients) (r q : ℕ) → r ≡ refusal_of c first second → q ≡ refusal_of c first second → r ≡ q
+pub validate_unique : (c : PreprocessingConfig) (first second : BiquadCoefficients) (r q : Result ⊤ Refusal) → r ≡ outcome_of c first second → q ≡ outcome_of c first second → r ≡ q
 validate_unique c first second r q = only
 
 pub sound_unique : (f : DcHighPassFilter) (r q : Bool) → r ≡ sound_of f → q ≡ sound_of f → r ≡ q

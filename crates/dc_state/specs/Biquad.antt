@@ -1,16 +1,19 @@
 -- One stage's step, 'as `Biquad::process` does'.
-use Rattle.std.specs.Prelude.{Float}
+use Rattle.std.specs.Prelude.{Float, List, Option, get_or}
 use Rattle.std.specs.Float.{nan, binary32}
 use Rattle.std.specs.Float.Ieee.{sub, mul}
 use Rattle.float.specs.Finite.{or_else}
 use Rattle.float.specs.Fused.{fused_of}
-use Rattle.float.specs.declared.Rounded.{Rounded}
 use Rattle.dc_state.specs.declared.biquad.Biquad.{Biquad}
 use Rattle.dc_state.specs.declared.biquad.BiquadCoefficients.{BiquadCoefficients}
 use Rattle.dc_state.specs.declared.biquad.BiquadState.{BiquadState}
 
+-- five numbers in the order b0, b1, b2, a1, a2
+unfoldable pub coefficients_of : List Float → BiquadCoefficients
+coefficients_of a = record { b0 = get_or a 0 nan; b1 = get_or a 1 nan; b2 = get_or a 2 nan; a1 = get_or a 3 nan; a2 = get_or a 4 nan }
+
 -- the number, and a NaN for the word that there is none
-abbrev pub or_nan : Rounded → Float
+abbrev pub or_nan : Option Float → Float
 or_nan = or_else nan
 
 -- acc = b0 · x + (b1 · x1 + b2 · x2), and from it a1 · y1 + a2 · y2 is taken; the products that are added to are fused

@@ -1,3 +1,4 @@
 pub mod Biquad
+pub mod Orders
 pub mod Settings
 pub mod Operations

@@ -1,9 +1,11 @@
 -- Refusals 20 to 24 and 27: which settings, coefficients and states are taken. Floats are compared as floats, so a NaN is in no range, and −0 is in [−2,0].
-use Rattle.std.specs.Prelude.{Bool, not, ◌&&◌, List, [], ◌∷◌, ℕ, eqb, pos, Float}
+use Rattle.std.specs.Prelude.{Bool, not, ◌&&◌, List, [], ◌∷◌, ℕ, eqb, pos, Float, Result, ⊤}
 use Rattle.std.specs.Float.{binary32}
 use Rattle.std.specs.Float.Ieee.{of_bits, of_int, le, lt, div, neg}
 use Rattle.std.specs.Float.Ieee.Scale.{finite}
-use Rattle.refusals.specs.Refusals.{Case, bare, first_of}
+use Rattle.refusals.specs.Refusals.{Case, refusing, first_of, number_in}
+use Rattle.refusals.specs.declared.Refusal.{Refusal}
+use Rattle.refusals.specs.declared.Refusal.TheVariants as why
 use Rattle.float.specs.Numbers.{zero32, one32}
 use Rattle.ranges.specs.Ranges.{within, rate_in}
 use Rattle.dc_state.specs.declared.biquad.BiquadCoefficients.{BiquadCoefficients}
@@ -45,16 +47,20 @@ stages_taken FourthOrder first second = stage_taken first && stage_taken second
 -- 'filter opening 20 to 24'; 20: 'rate outside the domain'
 unfoldable pub setting_refusals : PreprocessingConfig → BiquadCoefficients → BiquadCoefficients → List Case
 setting_refusals c first second =
-    bare 20 (not (rate_in c.sample_rate_hz))
-    ∷ bare 21 (not (cutoff_taken c.highpass_cutoff_hz))
-    ∷ bare 22 (not (below_half c.highpass_cutoff_hz c.sample_rate_hz))
-    ∷ bare 23 (not (alpha_taken c.dc_bias_alpha))
-    ∷ bare 24 (not (stages_taken c.highpass_order first second))
+    refusing why.FilterRate (not (rate_in c.sample_rate_hz))
+    ∷ refusing why.FilterCutoff (not (cutoff_taken c.highpass_cutoff_hz))
+    ∷ refusing why.FilterHalfRate (not (below_half c.highpass_cutoff_hz c.sample_rate_hz))
+    ∷ refusing why.FilterAlpha (not (alpha_taken c.dc_bias_alpha))
+    ∷ refusing why.FilterCoefficient (not (stages_taken c.highpass_order first second))
     ∷ []
 
--- the number of the first that refuses, and 0 where none does
+-- the first that refuses
+unfoldable pub outcome_of : PreprocessingConfig → BiquadCoefficients → BiquadCoefficients → Result ⊤ Refusal
+outcome_of c first second = first_of (setting_refusals c first second)
+
+-- its number, and 0 where nothing is refused
 unfoldable pub refusal_of : PreprocessingConfig → BiquadCoefficients → BiquadCoefficients → ℕ
-refusal_of c first second = (first_of (setting_refusals c first second)).number
+refusal_of c first second = number_in (outcome_of c first second)
 
 unfoldable pub remembers_finite : BiquadState → Bool
 remembers_finite s = finite s.x1 && finite s.x2 && finite s.y1 && finite s.y2

@@ -2,6 +2,9 @@
 
 #![tactic(auto)]
 
+ghost use Rattle.std.specs.Prelude.{◌≡◌};
+ghost use Rattle.dc_state.specs.Orders.{order_of, order_word};
+
 pub mod biquad;
 pub mod settings;
 
@@ -12,6 +15,31 @@ use biquad::Biquad;
 pub enum HighpassOrder {
     SecondOrder,
     FourthOrder,
+}
+
+// Of the host's flag, which is set for fourth order.
+impl From<bool> for HighpassOrder {
+    ghost from_gives = { λ fourth order. order ≡ order_of fourth };
+
+    fn from(fourth: bool) -> Self {
+        if fourth {
+            HighpassOrder::FourthOrder
+        } else {
+            HighpassOrder::SecondOrder
+        }
+    }
+}
+
+// The same flag in a word.
+impl From<HighpassOrder> for u32 {
+    ghost from_gives = { λ order word. word ≡ order_word order };
+
+    fn from(order: HighpassOrder) -> u32 {
+        match order {
+            HighpassOrder::SecondOrder => 0,
+            HighpassOrder::FourthOrder => 1,
+        }
+    }
 }
 
 #[derive(Clone, Copy)]

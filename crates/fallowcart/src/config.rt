@@ -4,7 +4,7 @@ ghost use Rattle.vad_config.specs.Config.{settings_of};
 
 use vad_config::VadConfig;
 
-// The fields of the Rust's `VadConfig` in its order, durations in nanoseconds, the optional number as a flag and a number.
+// The fields of the Rust's `VadConfig` in its order, durations in nanoseconds, the optional number as a flag and a number. The C interface hands no struct over.
 pub fn collected(
     sample_rate: u32,
     frame_duration: u64,

@@ -16,24 +16,24 @@ ghost use Rattle.float.specs.Whole.{round_of, ceil_of};
 ghost use Rattle.score.specs.Score.{score_of};
 ghost use Rattle.fallowcart.specs.Pattern.{number_of, pattern_of};
 
+// What no number's bits are.
+const NO_NUMBER: u64 = 0x1_0000_0000;
+
 // The bits of a number, and 2^32 for a NaN.
 fn number_bits(x: f32) -> u64
     ensures { result ≡ number_of x }
 {
-    if x != x {
-        return 0x1_0000_0000;
+    if x.is_nan() {
+        return NO_NUMBER;
     }
-    f32::to_bits(x) as u64
+    x.to_bits() as u64
 }
 
 // The bits of a finite number, and 2^32 for the word that there is none.
-fn pattern(r: float::Rounded) -> u64
+fn pattern(r: Option<f32>) -> u64
     ensures { result ≡ pattern_of r }
 {
-    match r {
-        float::Rounded::Finite(x) => number_bits(x),
-        float::Rounded::Nothing => 0x1_0000_0000,
-    }
+    r.map_or(NO_NUMBER, number_bits)
 }
 
 #[unsafe(no_mangle)]

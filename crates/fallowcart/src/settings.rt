@@ -25,7 +25,7 @@ pub extern "C" fn fallowcart_settings_refusal(
 ) -> u32
     ensures { result ≡ refusal_of (settings_of sample_rate frame_duration frame_overlap has_pre_emphasis pre_emphasis activation_ratio release_ratio min_speech_energy noise_smoothing energy_floor hangover_frames speech_padding min_speech_frames stream_start_time) }
 {
-    vad_config::validate(collected(
+    refusals::number_in(vad_config::validate(collected(
         sample_rate,
         frame_duration,
         frame_overlap,
@@ -40,7 +40,7 @@ pub extern "C" fn fallowcart_settings_refusal(
         speech_padding,
         min_speech_frames,
         stream_start_time,
-    ))
+    )))
 }
 
 #[unsafe(no_mangle)]

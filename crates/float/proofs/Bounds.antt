@@ -1,4 +1,5 @@
 -- Bounds of rounded results, by monotone rounding. `Mag x n d`: x is finite and |x| ≤ n / d. `Low x n d`: and its sign is +. `Held f n d`: n / d is a value of the format f.
+use Rattle.std.specs.Prelude.{None, Option, Some}
 use Rattle.std.proofs.Common.{◌≡◌, ℕ, zero, suc, ◌+◌, ◌-◌, ◌*◌, ◌/◌, ◌%◌, ◌^◌, ◌<◌, ◌≤◌, Bool, true, false, cond, ◌&&◌, ◌||◌, T, eqb, ltb, leb, ℤ, pos, negsuc, sym, refl, ap, ◌∙◌, subst, ap₂, inl, inr, true≢false, zero-le, le_trans, le_of_eq, le_refl, lt_of_lt_of_le, lt_of_le_of_lt, le_of_lt, add-le-add, lt_irrefl, mul-le-mul_right, zero-lt-suc, mul_assoc, mul_comm, add-mul, mul-le-mul, le_antisymm, lt_of_mul-lt-mul_right, eq-or-lt_of_le, mul-le-mul_left, mul-lt-mul_of_pos_right, mul-pos, one-mul, zero-mul, mul-one, mul_right_comm, not-le_of_lt, div-mul-le_self, le_of_mul-le-mul_right, mul_left_comm, arith, lit<, lit≤, eqb→eq, ltb→lt, lt→ltb, leb→le, pow_pos, pow_mono, pow-add, le-ltb, ne_eqb}
 use native.Mathlib.Nat.{mul-mul-mul_comm, eq_of_mul-eq-mul_right}
 use mathlib.Core.Bool.{beq, false≢true}
@@ -11,8 +12,6 @@ use lib.Ieee.Order.{round_mono, le_of_values}
 use lib.Ieee.Nearest.{div_mono}
 use lib.Ieee.Scale.{finite, grid, round_val, round_under}
 use lib.Ieee.Positive.{num, den, positive, den_pos, own_value, value_pos, first_pos, through}
-use Rattle.float.specs.declared.Rounded.{Rounded}
-use Rattle.float.specs.declared.Rounded.TheVariants.{Finite, Nothing}
 use Rattle.float.specs.Finite.{rounded, or_zero}
 use Rattle.float.specs.Inside.{mag_of, neg_of}
 use Rattle.float.specs.Nearest.{not_negative}
@@ -396,15 +395,15 @@ pub div_whole_low : (f : Format) (x y : Float) (c n k : ℕ) → 0 < c → 0 < k
 div_whole_low f x y c n k C K H v h = div_low f x y (c * n) k c 1 n k K C K H h (over_value y c 1 v) (le_of_eq (simp (mul-one, mul_assoc, mul_comm, mul_left_comm)))
 
 -- ---- a result that is a number: it fits, and P holds of it
-abbrev pub Yields : Rounded → (Float → Type 0) → Type 0
-Yields r P = (v : Float) × (r ≡ Finite v) × T (fits binary32 v) × P v
+abbrev pub Yields : Option Float → (Float → Type 0) → Type 0
+Yields r P = (v : Float) × (r ≡ Some v) × T (fits binary32 v) × P v
 
 -- such a number stands for itself
-pub found : (r : Rounded) (P : Float → Type 0) → Yields r P → P (or_zero r)
+pub found : (r : Option Float) (P : Float → Type 0) → Yields r P → P (or_zero r)
 found r P y = subst P (sym (ap or_zero y.1)) y.3
 
 -- and is an f32
-pub found_fits : (r : Rounded) (P : Float → Type 0) → Yields r P → T (fits binary32 (or_zero r))
+pub found_fits : (r : Option Float) (P : Float → Type 0) → Yields r P → T (fits binary32 (or_zero r))
 found_fits r P y = subst (λ (v : Float). T (fits binary32 v)) (sym (ap or_zero y.1)) y.2
 
 yields : (x : Float) (P : Float → Type 0) → T (finite x) → T (fits binary32 x) → P x → Yields (rounded x) P
@@ -412,15 +411,15 @@ yields nan P t u p = absurd t
 yields (inf s) P t u p = absurd t
 yields (fin s m e) P t u p = (fin s m e, refl, u, p)
 
-no_number : {X : Type 0} (v : Float) → Nothing ≡ Finite v → X
+no_number : {X : Type 0} (v : Float) → None ≡ Some v → X
 no_number v p = let z : ◌≡◌ {A = ℕ} 0 1 = cc in absurd (omega arith)
 
-rounded_is : (x v : Float) → rounded x ≡ Finite v → x ≡ v
+rounded_is : (x v : Float) → rounded x ≡ Some v → x ≡ v
 rounded_is nan v p = no_number v p
 rounded_is (inf s) v p = no_number v p
 rounded_is (fin s m e) v p = cc
 
-rounded_finite : (x v : Float) → rounded x ≡ Finite v → T (finite v)
+rounded_finite : (x v : Float) → rounded x ≡ Some v → T (finite v)
 rounded_finite nan v p = no_number v p
 rounded_finite (inf s) v p = no_number v p
 rounded_finite (fin s m e) v p = subst (λ (z : Float). T (finite z)) (rounded_is (fin s m e) v p) tt
@@ -441,7 +440,7 @@ sum_fits : (f : Format) (s : Bool) (a : ℕ) (t : Bool) (b c : ℕ) → T (fits 
 sum_fits f s a t b c = rw (sum_is f s a t b c) (round-fits f (neg_of s a t b) (mag_of s a t b) c)
 
 -- the operands of a number are finite, and with like signs of x and y and the sign + of z it is one rounded fraction
-pub fused_finite : (x y z v : Float) → fused_of x y z ≡ Finite v → T (finite x) × T (finite y) × T (finite z)
+pub fused_finite : (x y z v : Float) → fused_of x y z ≡ Some v → T (finite x) × T (finite y) × T (finite z)
 unfolding fused_of
 fused_finite nan y z v p = no_number v p
 fused_finite (inf s) y z v p = no_number v p
@@ -451,17 +450,17 @@ fused_finite (fin s m e) (fin t n d) nan v p = no_number v p
 fused_finite (fin s m e) (fin t n d) (inf u) v p = no_number v p
 fused_finite (fin s m e) (fin t n d) (fin u k g) v p = (tt, tt, tt)
 
-fused_sum : (x y z v : Float) → fused_of x y z ≡ Finite v
+fused_sum : (x y z v : Float) → fused_of x y z ≡ Some v
     → sum binary32 (unlike (sign x) (sign y)) (num x * num y * den z) (sign z) (num z * (den x * den y)) (den x * den y * den z) ≡ v
 fused_sum x y z v p =
     let t = fused_finite x y z v p in
     rounded_is _ v (sym (fused_is x y z t.0 t.1 t.2) ∙ p)
 
-fused_round : (x y z v : Float) → sign x ≡ sign y → sign z ≡ false → fused_of x y z ≡ Finite v → round binary32 false (num x * num y * den z + num z * (den x * den y)) (den x * den y * den z) ≡ v
+fused_round : (x y z v : Float) → sign x ≡ sign y → sign z ≡ false → fused_of x y z ≡ Some v → round binary32 false (num x * num y * den z + num z * (den x * den y)) (den x * den y * den z) ≡ v
 fused_round x y z v s t p =
     sym (sum_plus binary32 (unlike (sign x) (sign y)) (sign z) (num x * num y * den z) (num z * (den x * den y)) (den x * den y * den z) (unlike_same (sign x) (sign y) s) t) ∙ fused_sum x y z v p
 
-pub fused_fits : (x y z v : Float) → fused_of x y z ≡ Finite v → T (fits binary32 v)
+pub fused_fits : (x y z v : Float) → fused_of x y z ≡ Some v → T (fits binary32 v)
 fused_fits x y z v p = rw (fused_sum x y z v p) at (sum_fits binary32 (unlike (sign x) (sign y)) (num x * num y * den z) (sign z) (num z * (den x * den y)) (den x * den y * den z))
 
 module _ (x y z : Float) (a b c d p q n k : ℕ) (B : 0 < b) (D : 0 < d) (Q : 0 < q) (K : 0 < k) (H : Held binary32 n k) where
@@ -544,7 +543,7 @@ root_low (fin false (suc m) e) a b n k B K t H h p =
     let v = round binary32 false (twice_root N) (2 ^ 151) in
     yields v (λ u. Low u n k) (mag_finite v n k (low_mag v n k r)) (round-fits binary32 false (twice_root N) (2 ^ 151)) r
 
-pub root_fits : (x v : Float) → T (fits binary32 x) → root_of x ≡ Finite v → T (fits binary32 v)
+pub root_fits : (x v : Float) → T (fits binary32 x) → root_of x ≡ Some v → T (fits binary32 v)
 unfolding root_of
 root_fits nan v t p = no_number v p
 root_fits (inf s) v t p = no_number v p
@@ -629,7 +628,7 @@ le_rounded : (a b c d : ℕ) (u v : Float) → 0 < b → 0 < d → round binary3
 le_rounded a b c d u v B D p q h = rw (← p, ← q) (round_mono binary32 a b c d B D h)
 
 pub fused_mono : (x y z x' y' z' u v : Float) → T (not_negative x) → T (not_negative y) → T (not_negative z) → T (not_negative x') → T (not_negative y') → T (not_negative z')
-    → T (le x x') → T (le y y') → T (le z z') → fused_of x y z ≡ Finite u → fused_of x' y' z' ≡ Finite v → T (le u v)
+    → T (le x x') → T (le y y') → T (le z z') → fused_of x y z ≡ Some u → fused_of x' y' z' ≡ Some v → T (le u v)
 fused_mono x y z x' y' z' u v p q r p' q' r' h g i eu ev =
     le_rounded (num x * num y * den z + num z * (den x * den y)) (den x * den y * den z) (num x' * num y' * den z' + num z' * (den x' * den y')) (den x' * den y' * den z') u v
     (mul-pos (mul-pos (den_pos x) (den_pos y)) (den_pos z)) (mul-pos (mul-pos (den_pos x') (den_pos y')) (den_pos z'))
@@ -658,7 +657,7 @@ twice_mono n m h =
         go r true = omega arith
         go r false = omega arith
 
-pub root_plus : (x v : Float) → T (not_negative x) → root_of x ≡ Finite v → T (not_negative v)
+pub root_plus : (x v : Float) → T (not_negative x) → root_of x ≡ Some v → T (not_negative v)
 unfolding root_of
 root_plus nan v t p = absurd t
 root_plus (inf s) v t p = absurd t
@@ -668,7 +667,7 @@ root_plus (fin false (suc m) e) v t p =
     let r = twice_root (suc m * up e * 2 ^ 300 / down e) in
     plus_of v (rounded_finite (round binary32 false r (2 ^ 151)) v p) (ap sign (sym (rounded_is (round binary32 false r (2 ^ 151)) v p)) ∙ round_sign binary32 r (2 ^ 151))
 
-pub root_mono : (x y u v : Float) → T (not_negative x) → T (not_negative y) → T (le x y) → root_of x ≡ Finite u → root_of y ≡ Finite v → T (le u v)
+pub root_mono : (x y u v : Float) → T (not_negative x) → T (not_negative y) → T (le x y) → root_of x ≡ Some u → root_of y ≡ Some v → T (le u v)
 unfolding root_of
 root_mono nan y u v p q h eu ev = absurd p
 root_mono (inf s) y u v p q h eu ev = absurd p

@@ -1,5 +1,5 @@
 -- A count up to 2 ^ 64 as the nearest f32.
-use Rattle.std.proofs.Common.{◌≡◌, ℕ, ◌+◌, ◌*◌, ◌/◌, ◌%◌, ◌^◌, ◌<◌, ◌≤◌, Bool, false, cond, pos, sym, refl, ap, ◌∙◌, subst, mul_assoc, mul-one, arith, lit<, lit≤, pow_pos, pow-add, eq-eqb, ne_eqb}
+use Rattle.std.proofs.Common.{◌≡◌, ℕ, ◌+◌, ◌*◌, ◌/◌, ◌%◌, ◌^◌, ◌<◌, ◌≤◌, Bool, false, cond, pos, sym, refl, ap, ◌∙◌, mul_assoc, mul-one, arith, lit<, lit≤, pow_pos, pow-add, eq-eqb, ne_eqb}
 use native.Mathlib.Decide.{dec_lt}
 use lib.Ieee.{Float, nan, inf, fin, binary32, round, of_int}
 use lib.Ieee.Scale.{round_same}
@@ -41,9 +41,3 @@ jammed n h = elim (dec_lt 0 (n % 2)) [
 
 pub count_jammed : (n : ℕ) → 2 ^ 63 ≤ n → n < 2 ^ 64 → or_zero (rounded (round binary32 false (jam_of n 1 * 2 ^ 315) (2 ^ 314))) ≡ of_int binary32 (pos n)
 count_jammed n g h = ap (λ (x : Float). or_zero (rounded x)) (jammed n g) ∙ count_is n h
-
-pub jam_small : (n : ℕ) → n < 2 ^ 64 → jam_of n 1 < 2 ^ 63
-jam_small n h = elim (dec_lt 0 (n % 2)) [
-  | no g ↦ let e : n % 2 ≡ 0 = omega arith in subst (λ (b : Bool). cond b (n / 2) (n / 2 / 2 * 2 + 1) < 9223372036854775808) (sym (eq-eqb (n % 2) 0 e)) (omega arith)
-  | yes o ↦ subst (λ (b : Bool). cond b (n / 2) (n / 2 / 2 * 2 + 1) < 9223372036854775808) (sym (ne_eqb (n % 2) 0 (some (n % 2) o))) (omega arith)
-]

@@ -1,5 +1,5 @@
 -- What a float's comparisons with a whole number, or with the middle between two, say of its rounded value.
-use Rattle.std.proofs.Common.{◌≡◌, ℕ, zero, suc, ◌+◌, ◌-◌, ◌*◌, ◌/◌, ◌%◌, ◌^◌, ◌<◌, ◌≤◌, min, true, false, ◌&&◌, T, eqb, ltb, leb, ℤ, pos, negsuc, sym, refl, ap, ◌∙◌, subst, true≢false, le_trans, le_of_eq, lt_of_lt_of_le, mod-lt, mul_assoc, div-lt_iff_lt-mul, add-mul, mul-le-mul_left, mul-lt-mul_of_pos_right, mul-pos, one-mul, div-add-mod', le-div_iff_mul-le, mul-one, mul_right_comm, div-mul-le_self, mul_left_comm, arith, lit<, lit≤, ltb→lt, pow_pos, pow_mono, pow-add, ltb-false, ltb-true, lt-ltb}
+use Rattle.std.proofs.Common.{◌≡◌, ℕ, zero, suc, ◌+◌, ◌-◌, ◌*◌, ◌/◌, ◌%◌, ◌^◌, ◌<◌, ◌≤◌, min, true, false, ◌&&◌, T, eqb, ltb, leb, ℤ, pos, negsuc, sym, refl, ap, ◌∙◌, subst, true≢false, le_trans, le_of_eq, lt_of_lt_of_le, mod-lt, mul_assoc, div-lt_iff_lt-mul, add-mul, mul-le-mul_left, mul-lt-mul_of_pos_right, mul-pos, one-mul, div-add-mod', mul-one, mul_right_comm, div-mul-le_self, mul_left_comm, arith, lit<, lit≤, ltb→lt, pow_pos, pow_mono, pow-add, ltb-false, ltb-true, lt-ltb}
 use lib.Arith.{digits_div}
 use lib.Ieee.{Float, nan, inf, fin, binary64, up, down, fits, round, sum, add, lt, of_int, to_unsigned}
 use lib.Ieee.Fits.{down_pos, and_l, and_r}
@@ -15,25 +15,6 @@ two k = fin false 1 (pos k)
 
 no_truth : {X : Type 0} → false ≡ true → X
 no_truth h = absurd (true≢false (sym h))
-
-pub cut_above : (x : Float) → lt (fin true 1 (pos 0)) x ≡ true → lt x (two 64) ≡ false → 18446744073709551615 ≡ to_unsigned 64 x
-unfolding lt to_unsigned
-cut_above nan h g = no_truth h
-cut_above (inf true) h g = no_truth h
-cut_above (inf false) h g = refl
-cut_above (fin true m e) h g = absurd (true≢false (sym (lt-ltb 0 (m * up e * 1 + 1 * 2 ^ 64 * down e) (let b : 0 < 1 * 2 ^ 64 * down e = mul-pos (lit< tt) (down_pos e) in omega arith)) ∙ g))
-cut_above (fin false m e) h g =
-    let l : 1 * 2 ^ 64 * down e ≤ m * up e * 1 = ltb-false (m * up e * 1) (1 * 2 ^ 64 * down e) g in
-    let d : 2 ^ 64 ≤ m * up e / down e = (le-div_iff_mul-le (down_pos e)).1 (le_trans l (le_of_eq (mul-one (m * up e)))) in
-    omega arith
-
-pub cut_below : (x : Float) → lt (fin true 1 (pos 0)) x ≡ false → 0 ≡ to_unsigned 64 x
-unfolding lt to_unsigned
-cut_below nan h = refl
-cut_below (inf true) h = refl
-cut_below (inf false) h = absurd (true≢false h)
-cut_below (fin true m e) h = refl
-cut_below (fin false m e) h = absurd (true≢false (sym (lt-ltb 0 (1 * 1 * down e + m * up e * 1) (let b : 0 < 1 * 1 * down e = mul-pos (lit< tt) (down_pos e) in omega arith)) ∙ h))
 
 pub cut_small : (x : Float) → lt x (two 52) ≡ true → to_unsigned 64 x < 4503599627370496
 unfolding lt to_unsigned

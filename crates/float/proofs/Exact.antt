@@ -1,8 +1,8 @@
 -- The definition of the fused operation, on the bits' parts.
+use Rattle.std.specs.Prelude.{None}
 use Rattle.std.proofs.Common.{◌≡◌, ℕ, ◌+◌, ◌*◌, ◌^◌, ◌<◌, Bool, T, ℤ, sym, refl, ap, ◌∙◌, subst, ap₂, lt_irrefl, mul_assoc, mul_comm, mul-pos, mul_left_comm, pow_pos, pow-add}
 use lib.Ieee.{Float, nan, inf, fin, Format, binary32, unlike, up, down, sum, fits, to_bits}
 use lib.Ieee.Fits.{down_pos}
-use Rattle.float.specs.declared.Rounded.TheVariants.{Nothing}
 use Rattle.float.specs.Inside.{field_of, sign_of, fused_bits_of, M, Q}
 use Rattle.float.specs.Finite.{rounded}
 use Rattle.float.specs.Fused.{fused_of}
@@ -13,13 +13,13 @@ use Rattle.float.proofs.Decode.{Decoded, decoded}
 clash : {X : Type 0} (x : ℕ) → x < 255 → x ≡ 255 → X
 clash x h e = absurd (lt_irrefl 255 (subst (λ (z : ℕ). z < 255) e h))
 
-pub no_first : (a b c : Float) → T (fits binary32 a) → field_of (to_bits binary32 a) ≡ 255 → Nothing ≡ fused_of a b c
+pub no_first : (a b c : Float) → T (fits binary32 a) → field_of (to_bits binary32 a) ≡ 255 → None ≡ fused_of a b c
 unfolding fused_of
 no_first nan b c t e = refl
 no_first (inf s) b c t e = refl
 no_first (fin s m d) b c t e = clash (field_of (to_bits binary32 (fin s m d))) (decoded (fin s m d) t).0 e
 
-pub no_second : (a b c : Float) → T (fits binary32 b) → field_of (to_bits binary32 b) ≡ 255 → Nothing ≡ fused_of a b c
+pub no_second : (a b c : Float) → T (fits binary32 b) → field_of (to_bits binary32 b) ≡ 255 → None ≡ fused_of a b c
 unfolding fused_of
 no_second nan b c t e = refl
 no_second (inf s) b c t e = refl
@@ -27,7 +27,7 @@ no_second (fin s m d) nan c t e = refl
 no_second (fin s m d) (inf u) c t e = refl
 no_second (fin s m d) (fin u n g) c t e = clash (field_of (to_bits binary32 (fin u n g))) (decoded (fin u n g) t).0 e
 
-pub no_third : (a b c : Float) → T (fits binary32 c) → field_of (to_bits binary32 c) ≡ 255 → Nothing ≡ fused_of a b c
+pub no_third : (a b c : Float) → T (fits binary32 c) → field_of (to_bits binary32 c) ≡ 255 → None ≡ fused_of a b c
 unfolding fused_of
 no_third nan b c t e = refl
 no_third (inf s) b c t e = refl

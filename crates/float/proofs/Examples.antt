@@ -1,55 +1,55 @@
 -- Cases computed from the definitions: document 01's four, the signs of zero, what has no number, and what wrong ways of working would answer.
+use Rattle.std.specs.Prelude.{None, Some}
 use Rattle.std.proofs.Common.{◌≡◌, ◌*◌, ◌^◌, true, false, pos, negsuc, refl}
 use lib.Ieee.{fin, binary32, binary64, sum, round, of_bits}
-use Rattle.float.specs.declared.Rounded.TheVariants.{Finite, Nothing}
 use Rattle.float.specs.Fused.{fused_of}
 use Rattle.float.specs.Root.{root_of, twice_root}
 use Rattle.float.specs.Whole.{round_of, ceil_of}
 
 -- ---- document 01's table
 -- (1 + 2^-12)^2 - (1 + 2^-11) = 2^-24
-pub fused_cancels : fused_of (fin false 4097 (negsuc 11)) (fin false 4097 (negsuc 11)) (fin true 2049 (negsuc 10)) ≡ Finite (fin false 1 (negsuc 23))
+pub fused_cancels : fused_of (fin false 4097 (negsuc 11)) (fin false 4097 (negsuc 11)) (fin true 2049 (negsuc 10)) ≡ Some (fin false 1 (negsuc 23))
 unfolding fused_of sum round
 fused_cancels = refl
 
 -- (1 + 2^-12)^2 + 2^-60 = 1 + 2^-11 + 2^-23
-pub fused_once : fused_of (fin false 4097 (negsuc 11)) (fin false 4097 (negsuc 11)) (fin false 1 (negsuc 59)) ≡ Finite (fin false 8392705 (negsuc 22))
+pub fused_once : fused_of (fin false 4097 (negsuc 11)) (fin false 4097 (negsuc 11)) (fin false 1 (negsuc 59)) ≡ Some (fin false 8392705 (negsuc 22))
 unfolding fused_of sum round
 fused_once = refl
 
-pub root_of_zero : root_of (fin false 0 (pos 0)) ≡ Finite (fin false 0 (pos 0))
+pub root_of_zero : root_of (fin false 0 (pos 0)) ≡ Some (fin false 0 (pos 0))
 unfolding root_of
 root_of_zero = refl
 
-pub root_of_two : root_of (fin false 1 (pos 1)) ≡ Finite (of_bits binary32 0x3FB5_04F3)
+pub root_of_two : root_of (fin false 1 (pos 1)) ≡ Some (of_bits binary32 0x3FB5_04F3)
 unfolding root_of twice_root round of_bits
 root_of_two = refl
 
 -- ---- signs of zero
 -- 1 * 1 - 1 = +0, and -0 * 1 + -0 = -0
-zero_plus : fused_of (fin false 1 (pos 0)) (fin false 1 (pos 0)) (fin true 1 (pos 0)) ≡ Finite (fin false 0 (pos 0))
+zero_plus : fused_of (fin false 1 (pos 0)) (fin false 1 (pos 0)) (fin true 1 (pos 0)) ≡ Some (fin false 0 (pos 0))
 unfolding fused_of sum round
 zero_plus = refl
 
-zero_minus : fused_of (fin true 0 (pos 0)) (fin false 1 (pos 0)) (fin true 0 (pos 0)) ≡ Finite (fin true 0 (pos 0))
+zero_minus : fused_of (fin true 0 (pos 0)) (fin false 1 (pos 0)) (fin true 0 (pos 0)) ≡ Some (fin true 0 (pos 0))
 unfolding fused_of sum round
 zero_minus = refl
 
-root_of_minus_zero : root_of (fin true 0 (pos 0)) ≡ Finite (fin true 0 (pos 0))
+root_of_minus_zero : root_of (fin true 0 (pos 0)) ≡ Some (fin true 0 (pos 0))
 unfolding root_of
 root_of_minus_zero = refl
 
 -- ---- the word
 -- 2^127 * 2 + 0 overflows; the largest finite number less than half a step above itself does not
-overflows : fused_of (fin false 1 (pos 127)) (fin false 1 (pos 1)) (fin false 0 (pos 0)) ≡ Nothing
+overflows : fused_of (fin false 1 (pos 127)) (fin false 1 (pos 1)) (fin false 0 (pos 0)) ≡ None
 unfolding fused_of sum round
 overflows = refl
 
-rounds_down : fused_of (fin false 16777215 (pos 104)) (fin false 1 (pos 0)) (fin false 16777215 (pos 79)) ≡ Finite (fin false 16777215 (pos 104))
+rounds_down : fused_of (fin false 16777215 (pos 104)) (fin false 1 (pos 0)) (fin false 16777215 (pos 79)) ≡ Some (fin false 16777215 (pos 104))
 unfolding fused_of sum round
 rounds_down = refl
 
-root_of_minus_one : root_of (fin true 1 (pos 0)) ≡ Nothing
+root_of_minus_one : root_of (fin true 1 (pos 0)) ≡ None
 unfolding root_of
 root_of_minus_one = refl
 
@@ -64,7 +64,7 @@ unfolding round
 in_f64_narrowed = refl
 
 -- A subnormal result just above the middle of 1,024 and 1,025 of 2^-149: rounded once it is the upper one, and rounded to 24 digits first it is the lower one.
-subnormal_once : fused_of (fin false 8392705 (negsuc 92)) (fin false 16777215 (negsuc 92)) (fin false 0 (pos 0)) ≡ Finite (fin false 1025 (negsuc 148))
+subnormal_once : fused_of (fin false 8392705 (negsuc 92)) (fin false 16777215 (negsuc 92)) (fin false 0 (pos 0)) ≡ Some (fin false 1025 (negsuc 148))
 unfolding fused_of sum round
 subnormal_once = refl
 

@@ -1,7 +1,6 @@
 -- The product and the addend, aligned as the code aligns them.
 use Rattle.std.proofs.Common.{◌≡◌, ℕ, zero, suc, ◌+◌, ◌-◌, ◌*◌, ◌/◌, ◌%◌, ◌^◌, ◌<◌, ◌≤◌, Bool, true, false, cond, not, ◌&&◌, T, eqb, ltb, ◌⊎◌, sym, refl, ap, ◌∙◌, ap₂, inl, inr, le_trans, le_of_eq, lt_of_lt_of_le, lt_of_le_of_lt, le_of_lt, mul-le-mul_right, mod-lt, mul_assoc, mul_comm, add-mul, add_comm, lt_of_mul-lt-mul_right, mul-le-mul_left, mul-lt-mul_of_pos_right, one-mul, mul-zero, div-add-mod', zero-mul, mul-one, arith, ltb→lt, nltb→le, pow_pos, pow_mono, pow-add, eqb-true}
 use native.Mathlib.Nat.{mul-mod_left}
-use lib.Pow.{shr_le}
 use lib.Ieee.{Format, binary32, round, sum}
 use borrow.Author.Tests.{eqb-false}
 use Rattle.float.specs.Inside.{M, Q, jam_of, mag_of, neg_of}
@@ -76,13 +75,6 @@ jam_says o g d = go (eqb (o * 2 ^ g % 2 ^ d) 0) (eqb-true (o * 2 ^ g % 2 ^ d) 0)
         let lo : 2 * (q / 2) * 2 ^ d < m = low (2 * (q / 2) * 2 ^ d) (q * 2 ^ d) r m (mul-le-mul_right (2 ^ d) (under q)) (pos r (n refl)) (div-add-mod' m (2 ^ d)) in
         let hi : m < 2 * (q / 2) * 2 ^ d + 2 * 2 ^ d = high (2 * (q / 2) * 2 ^ d) (q * 2 ^ d) (2 ^ d) r m (le_trans (mul-le-mul_right (2 ^ d) (over q)) (le_of_eq (one_more (2 * (q / 2)) (2 ^ d)))) (mod-lt m (pow_pos d)) (div-add-mod' m (2 ^ d)) in
         inr (q / 2, turn q, lo, hi, lt_of_mul-lt-mul_right (2 ^ d) (lt_of_lt_of_le lo (mul-le-mul_left o (pow_mono (le_of_lt (cut_above o g d (n refl)))))))
-
-pub jam_le : (m d : ℕ) → jam_of m d ≤ m + 1
-jam_le m d = go (eqb (m % 2 ^ d) 0) (m / 2 ^ d) m (shr_le m d)
-  where
-    go : (b : Bool) (q m : ℕ) → q ≤ m → cond b q (q / 2 * 2 + 1) ≤ m + 1
-    go true q m h = omega arith
-    go false q m h = omega arith
 
 -- ---- the two ways to align, over the common denominator 2 ^ 314
 near : (x y : ℕ) → x ≤ y → y - x + x ≡ y

@@ -1,4 +1,5 @@
 -- The definition of the root is the nearest f32 to the root, and nothing else is.
+use Rattle.std.specs.Prelude.{Some}
 use Rattle.std.proofs.Common.{◌≡◌, ℕ, zero, suc, ◌+◌, ◌-◌, ◌*◌, ◌/◌, ◌%◌, ◌^◌, ◌<◌, ◌≤◌, true, false, T, ◌⊎◌, ℤ, sym, refl, ap, ◌∙◌, subst, ap₂, inl, inr, true≢false, zero-le, le_trans, le_of_eq, lt_of_lt_of_le, lt_of_le_of_lt, le_of_lt, lt_irrefl, mul-le-mul_right, zero-lt-suc, mul_assoc, mul_comm, div-lt_iff_lt-mul, add-mul, eq-zero-or-pos, mul-le-mul, add_comm, le_antisymm, lt_of_mul-lt-mul_right, eq-or-lt_of_le, mul-le-mul_left, mul-lt-mul_of_pos_right, mul-pos, one-mul, pow-suc, mul-one, mul_right_comm, le_of_mul-le-mul_right, mul_left_comm, arith, lit<, lit≤, ltb→lt, lt→ltb, pow_pos, pow_mono, pow-add, shl_lt}
 use Prim.Native.Nat.{compare}
 use native.Mathlib.Nat.{eq_of_mul-eq-mul_right, pow-succ'}
@@ -11,7 +12,6 @@ use lib.Ieee.Exact.{HasValue, round_exact}
 use lib.Ieee.Order.{drop, kept}
 use lib.Ieee.Scale.{grid, overflow, round_val}
 use lib.Ieee.Positive.{num, den, positive, den_pos}
-use Rattle.float.specs.declared.Rounded.TheVariants.{Finite}
 use Rattle.float.specs.Inside.{field_of, place_at, M, Q}
 use Rattle.float.specs.Finite.{rounded}
 use Rattle.float.specs.Root.{integer_root, twice_root, root_of}
@@ -160,7 +160,7 @@ value_of nan g h = absurd h
 value_of (inf s) g h = absurd h
 value_of (fin s m e) g h = h.1
 
-word_of : (v : Float) (g : ℕ) → HasValue v false g (2 ^ 149) → rounded v ≡ Finite v
+word_of : (v : Float) (g : ℕ) → HasValue v false g (2 ^ 149) → rounded v ≡ Some v
 word_of nan g h = absurd h
 word_of (inf s) g h = absurd h
 word_of (fin s m e) g h = refl
@@ -246,7 +246,7 @@ under_units w g b h = le_of_mul-le-mul_right (le_trans (le_of_eq (sym (right (g 
     right s = ap (λ (x : ℕ). s * x) (pow-add 2 1 150) ∙ mul_left_comm s 2 (2 ^ 150) ∙ sym (mul_assoc 2 s (2 ^ 150))
 
 -- of a number above zero the definition is an f32, and the nearest to its root
-pub root_nearest : (x : Float) → T (fits binary32 x) → T (positive x) → (y : Float) × (root_of x ≡ Finite y) × NearestRoot x y
+pub root_nearest : (x : Float) → T (fits binary32 x) → T (positive x) → (y : Float) × (root_of x ≡ Some y) × NearestRoot x y
 root_nearest x t p =
     let n = (number_of_lem x t p).0 in
     let N = (number_of_lem x t p).1 in
@@ -411,7 +411,7 @@ nearest_unique x y z t p Y Z =
     ]
 
 -- so the definition is the nearest f32 to the root, and that alone
-pub nearest_is_root : (x y : Float) → T (fits binary32 x) → T (positive x) → NearestRoot x y → root_of x ≡ Finite y
+pub nearest_is_root : (x y : Float) → T (fits binary32 x) → T (positive x) → NearestRoot x y → root_of x ≡ Some y
 nearest_is_root x y t p Y =
     let r = root_nearest x t p in
-    r.1 ∙ ap Finite (nearest_unique x r.0 y t p r.2 Y)
+    r.1 ∙ ap Some (nearest_unique x r.0 y t p r.2 Y)

@@ -1,7 +1,7 @@
 -- Exponents of either sign, each as a difference of two natural numbers: `sub_ℕ a b` is a - b. Sums, differences, negations and comparisons of such are plain arithmetic.
-use Rattle.std.proofs.Common.{◌≡◌, ℕ, zero, suc, ◌+◌, ◌-◌, ◌<◌, ◌≤◌, Bool, true, false, cond, T, ltb, leb, ℤ, pos, negsuc, ◌+ℤ◌, ◌-ℤ◌, neg_ℤ, nat_abs, sym, refl, ap, ◌∙◌, subst, ap₂, inl, inr, true≢false, lt_of_lt_of_le, le_of_lt, arith, lit≤, to_z-of_z, w32, Fits, SFits, to_z, of_z, ltb-true, le-ltb, lt-ltb}
+use Rattle.std.proofs.Common.{◌≡◌, ℕ, zero, suc, ◌+◌, ◌-◌, ◌<◌, ◌≤◌, Bool, cond, T, ltb, leb, ℤ, pos, negsuc, ◌+ℤ◌, ◌-ℤ◌, neg_ℤ, sym, refl, ap, ◌∙◌, subst, ap₂, inl, inr, lt_of_lt_of_le, le_of_lt, arith, lit≤, to_z-of_z, w32, SFits, to_z, of_z, le-ltb, lt-ltb}
 use lib.IntN.{sub_ℕ}
-use lib.Signed.{mag, lt_z, non_neg}
+use lib.Signed.{mag, lt_z}
 use mir.Val.{sel}
 use Rattle.float.proofs.Sticky.{side}
 
@@ -82,28 +82,6 @@ mag_less a b k l h g =
     let x = split a k h in
     let y = split b l g in
     subst (λ (z : ℤ). mag z < k + l + 1) (sym (ap₂ (λ (u v : ℤ). u -ℤ v) x.2 y.2 ∙ sub_sub x.0 x.1 y.0 y.1)) (mag_sub (x.0 + y.1) (x.1 + y.0) (k + l + 1) (omega (arith, x.3, y.4)) (omega (arith, x.4, y.3)))
-
--- ---- a number tested against 0, and cast
-pub non_neg_of : (z : ℤ) → lt_z z (pos 0) ≡ false → T (non_neg z)
-non_neg_of (pos n) h = tt
-non_neg_of (negsuc n) h = absurd (true≢false h)
-
-pub nat_abs_lt : (z : ℤ) (k : ℕ) → mag z < k → nat_abs z < suc k
-nat_abs_lt (pos n) k h = omega arith
-nat_abs_lt (negsuc n) k h = omega arith
-
-pub cast_out : (z : ℤ) → mag z < 100000 → Fits w32 (nat_abs z)
-cast_out z h = record { fits = lt_of_lt_of_le (nat_abs_lt z 100000 h) (lit≤ tt) }
-
--- of a difference
-pub nat_abs_above : (a b : ℕ) → lt_z (sub_ℕ a b) (pos 0) ≡ false → nat_abs (sub_ℕ a b) ≡ a - b
-nat_abs_above a b h = elim (side a b) [ inl l ↦ absurd (true≢false (sym (ap (λ (z : ℤ). lt_z z (pos 0)) (at_below a b l)) ∙ h)) | inr l ↦ ap nat_abs (at_above a b l) ]
-
-pub lt_of_negative : (a b : ℕ) → lt_z (sub_ℕ a b) (pos 0) ≡ true → a < b
-lt_of_negative a b h = elim (side a b) [ inl l ↦ l | inr l ↦ absurd (no (a - b) (sym (ap (λ (z : ℤ). lt_z z (pos 0)) (at_above a b l)) ∙ h)) ]
-  where
-    no : (n : ℕ) → ltb n 0 ≡ true → ⊥
-    no n h = omega (arith, ltb-true n 0 h)
 
 -- ---- sums and differences of locals, for numbers that are small
 pub small : (n k : ℕ) → n < k → T (leb k 100000) → n < 100000

@@ -1,10 +1,10 @@
 -- A word at a place, its top digit brought to bit 62: the bits that the code puts together are those of its rounded value.
+use Rattle.std.specs.Prelude.{None, Some}
 use Rattle.std.proofs.Common.{◌≡◌, ℕ, zero, suc, ◌+◌, ◌-◌, ◌*◌, ◌^◌, ◌<◌, ◌≤◌, Bool, true, false, cond, ◌⊎◌, sym, refl, ap, ◌∙◌, ap₂, inl, inr, le_trans, le_of_eq, lt_of_lt_of_le, lt_of_le_of_lt, mul-le-mul_right, mul_assoc, mul_comm, mul-lt-mul_of_pos_right, zero-mul, mul_right_comm, arith, lit≤, pow_pos, pow-add, le-ltb, lt-ltb}
 use lib.Count.{count_leading_zeros, leading_top}
 use lib.Ieee.{binary32, odd, units, round, of_bits}
 use lib.Ieee.Nearest.{closest}
 use lib.Ieee.Scale.{round_same}
-use Rattle.float.specs.declared.Rounded.TheVariants.{Finite, Nothing}
 use Rattle.float.specs.Finite.{rounded}
 use Rattle.float.specs.Inside.{pack_of}
 use Rattle.float.proofs.Sticky.{side, pow_lt_back}
@@ -19,7 +19,7 @@ zero_packs s w x e = at s ∙ ap (λ (z : ℕ). rounded (round binary32 s z (2 ^
     at false = unfold pack_of round of_bits in refl
 
 -- ---- q * 2 ^ k units
-odd_word : (d : ℕ) (s : Bool) (q k l : ℕ) → Finite (odd d s q k l) ≡ rounded (odd d s q k l)
+odd_word : (d : ℕ) (s : Bool) (q k l : ℕ) → Some (odd d s q k l) ≡ rounded (odd d s q k l)
 unfolding odd
 odd_word d s zero k l = refl
 odd_word d s (suc q) k l = refl
@@ -30,12 +30,12 @@ units_pack s q k le ge =
     let b = k * 8388608 + q in
     elim (side b 2139095040) [
       | inl l ↦
-          ap (λ (t : Bool). cond t (Finite (of_bits binary32 (cond s 2147483648 0 + b))) Nothing) (lt-ltb b 2139095040 l)
-          ∙ ap Finite (pack_in s q k le ge l ∙ units_in s q k (in_range q k le ge l))
+          ap (λ (t : Bool). cond t (Some (of_bits binary32 (cond s 2147483648 0 + b))) None) (lt-ltb b 2139095040 l)
+          ∙ ap Some (pack_in s q k le ge l ∙ units_in s q k (in_range q k le ge l))
           ∙ odd_word 25 s q k 149
           ∙ ap rounded (sym (units_in s q k (in_range q k le ge l)))
       | inr l ↦
-          ap (λ (t : Bool). cond t (Finite (of_bits binary32 (cond s 2147483648 0 + b))) Nothing) (le-ltb b 2139095040 l)
+          ap (λ (t : Bool). cond t (Some (of_bits binary32 (cond s 2147483648 0 + b))) None) (le-ltb b 2139095040 l)
           ∙ ap rounded (sym (pack_out s q k le ge l))
     ]
 

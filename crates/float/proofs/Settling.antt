@@ -1,10 +1,10 @@
 -- The sum that `quick_sum` calls settled is the fused one. And what its casts ask: a sum of finite f32 is no NaN in f64.
+use Rattle.std.specs.Prelude.{Some}
 use Rattle.std.proofs.Common.{◌≡◌, ℕ, zero, suc, ◌+◌, ◌-◌, ◌*◌, ◌/◌, ◌%◌, ◌^◌, ◌<◌, ◌≤◌, Bool, true, false, cond, not, ◌&&◌, ◌||◌, T, eqb, ltb, sym, refl, ap, ◌∙◌, subst, ap₂, inl, inr, true≢false, add-zero, arith, ltb-true, eqb-true}
 use lib.Ieee.{Float, nan, inf, fin, binary32, binary64, is_nan, unlike, up, down, odd, units, round, fits, to_bits, of_bits}
 use lib.Ieee.Fits.{and_i, fits_widens, round_is}
 use lib.Ieee.Scale.{finite}
 use borrow.Author.Tests.{eqb-false}
-use Rattle.float.specs.declared.Rounded.TheVariants.{Finite}
 use Rattle.float.specs.Fused.{fused_of}
 use Rattle.float.specs.Inside.{mag_of, neg_of}
 use Rattle.float.specs.Settled.{normal_size, cut_of, up_of, evened_of, exact_of, settled_by, quick_of}
@@ -132,7 +132,7 @@ even_is n m r e h = go (n / 0x2000_0000) e (half r (m % 2) h (omega arith))
     go k {u} e f = omega arith
 
 -- ---- the three ways to be settled: zero, in no middle, exactly in one
-pub quick_fused : (a b c : Float) → T (fits binary32 a) → T (fits binary32 b) → T (fits binary32 c) → T (finite a) × T (finite b) × T (finite c) → (quick_of a b c).settled ≡ true → Finite (quick_of a b c).sum ≡ fused_of a b c
+pub quick_fused : (a b c : Float) → T (fits binary32 a) → T (fits binary32 b) → T (fits binary32 c) → T (finite a) × T (finite b) × T (finite c) → (quick_of a b c).settled ≡ true → Some (quick_of a b c).sum ≡ fused_of a b c
 unfolding quick_of settled_by evened_of cut_of up_of
 quick_fused a b c p q o f t = go (eqb (size w) 0 && eqb (low w) 0) refl (normal_size (size w)) refl (eqb (low w % 0x2000_0000) 0x1000_0000) refl t
   where
@@ -151,24 +151,24 @@ quick_fused a b c p q o f t = go (eqb (size w) 0 && eqb (low w) 0) refl (normal_
     result : ℕ → Float
     result v = of_bits binary32 (w / 0x8000_0000_0000_0000 * 0x8000_0000 + v)
 
-    same : (v u : ℕ) → v ≡ u → Finite (of_bits binary32 (high w / 0x8000_0000 * 0x8000_0000 + u)) ≡ Finite (result v)
-    same v u e = ap₂ (λ (x y : ℕ). Finite (of_bits binary32 (x + y))) (sym (sign_is w)) (sym e)
+    same : (v u : ℕ) → v ≡ u → Some (of_bits binary32 (high w / 0x8000_0000 * 0x8000_0000 + u)) ≡ Some (result v)
+    same v u e = ap₂ (λ (x y : ℕ). Some (of_bits binary32 (x + y))) (sym (sign_is w)) (sym e)
 
     go : (z : Bool) → eqb (size w) 0 && eqb (low w) 0 ≡ z → (l : Bool) → normal_size (size w) ≡ l → (k : Bool) → eqb (low w % 0x2000_0000) 0x1000_0000 ≡ k
         → z || (l && (not k || exact_of (to_bits binary32 a) (to_bits binary32 b) (to_bits binary32 c))) ≡ true
-        → Finite (of_bits binary32 (high w / 0x8000_0000 * 0x8000_0000 + cond l (m + (low w % 0x2000_0000 + 0x0fff_ffff + m % 2) / 0x2000_0000) 0)) ≡ fused_of a b c
+        → Some (of_bits binary32 (high w / 0x8000_0000 * 0x8000_0000 + cond l (m + (low w % 0x2000_0000 + 0x0fff_ffff + m % 2) / 0x2000_0000) 0)) ≡ fused_of a b c
     go true e true d k g t = absurd (let x = nothing e in let y = (normal_says (size w) d).0 in let s = size_is w in omega arith)
     go true e false d k g t =
         same 0 0 refl
-        ∙ ap (λ (v : ℕ). Finite (of_bits binary32 v)) (add-zero (w / 0x8000_0000_0000_0000 * 0x8000_0000))
-        ∙ narrow_fused a b c w (Finite (of_bits binary32 (w / 0x8000_0000_0000_0000 * 0x8000_0000))) (of_bits binary32 (w / 0x8000_0000_0000_0000 * 0x8000_0000)) p q (inr refl) (zeros w (nothing e)) refl
+        ∙ ap (λ (v : ℕ). Some (of_bits binary32 v)) (add-zero (w / 0x8000_0000_0000_0000 * 0x8000_0000))
+        ∙ narrow_fused a b c w (Some (of_bits binary32 (w / 0x8000_0000_0000_0000 * 0x8000_0000))) (of_bits binary32 (w / 0x8000_0000_0000_0000 * 0x8000_0000)) p q (inr refl) (zeros w (nothing e)) refl
     go false e true d false g t =
         let h = eqb-false (low w % 0x2000_0000) 0x1000_0000 g in
         let s = normal_says (size w) d in
         let r = rest_is n (size w) (low w) (size_is w) in
         let v = (n + 0x1000_0000) / 0x2000_0000 - 0x1_c000_0000 in
         same v (m + (low w % 0x2000_0000 + 0x0fff_ffff + m % 2) / 0x2000_0000) (up_is n m (low w % 0x2000_0000) (kept_is n (size w) (low w) (size_is w) (omega (arith, s.0))) r h)
-        ∙ narrow_fused a b c w (Finite (result v)) (result v) p q (inr refl) (some w (bound_low n (size w) (low w) (size_is w) s.0) (bound_high n (size w) (low w) (size_is w) s.1 (omega arith)) (λ x. h (sym r ∙ x))) refl
+        ∙ narrow_fused a b c w (Some (result v)) (result v) p q (inr refl) (some w (bound_low n (size w) (low w) (size_is w) s.0) (bound_high n (size w) (low w) (size_is w) s.1 (omega arith)) (λ x. h (sym r ∙ x))) refl
     go false e true d true g t =
         let h = eqb-true (low w % 0x2000_0000) 0x1000_0000 g in
         let s = normal_says (size w) d in

@@ -1,11 +1,11 @@
 -- A sum that is itself in the middle of two neighbouring f32 goes to the even one. Its f64 shows it, where nothing was lost there: where the product and the addend
 -- stand so near to each other that their exact sum has at most 53 digits.
+use Rattle.std.specs.Prelude.{Some}
 use Rattle.std.proofs.Common.{◌≡◌, ℕ, ◌+◌, ◌-◌, ◌*◌, ◌/◌, ◌%◌, ◌^◌, ◌<◌, ◌≤◌, Bool, true, false, cond, ◌&&◌, ◌||◌, T, eqb, ltb, leb, sym, refl, ap, ◌∙◌, subst, ap₂, inl, inr, true≢false, le_refl, lt_of_lt_of_le, lt_of_le_of_lt, mul_assoc, mul_comm, mul-pos, zero-mul, mul-one, le_of_mul-le-mul_right, arith, lit≤, pow_pos, pow_mono, pow-add, shl_lt, eqb-true, leb-true}
 use mathlib.Core.Bool.{beq}
 use lib.Ieee.{Float, nan, inf, fin, Format, binary32, binary64, unlike, up, down, round, sum, fits, to_bits, of_bits}
 use lib.Ieee.Nearest.{closest, closest_same}
 use lib.Ieee.Scale.{finite}
-use Rattle.float.specs.declared.Rounded.TheVariants.{Finite}
 use Rattle.float.specs.Finite.{rounded}
 use Rattle.float.specs.Fused.{fused_of}
 use Rattle.float.specs.Inside.{field_of, significand_at, M, Q, mag_of, neg_of}
@@ -53,13 +53,13 @@ module _ (n c w j k : ℕ) (C : 0 < c) (small : w < 2 ^ 53) (n_is : n ≡ w * 2 
 -- ---- the f32 of an exact middle
 pub tie_round : (s : Bool) (w e b : ℕ) → w < 2 ^ 53 → to_bits binary64 (round binary64 s (w * 2 ^ e) (2 ^ 314)) ≡ b
     → 0x3810_0000_0000_0000 < b % 0x8000_0000_0000_0000 → b % 0x8000_0000_0000_0000 < 0x47ef_ffff_e000_0000 → b % 0x8000_0000_0000_0000 % 0x2000_0000 ≡ 0x1000_0000
-    → rounded (round binary32 s (w * 2 ^ e) (2 ^ 314)) ≡ Finite (of_bits binary32 (b / 0x8000_0000_0000_0000 * 0x8000_0000 + (b % 0x8000_0000_0000_0000 / 0x2000_0000 + b % 0x8000_0000_0000_0000 / 0x2000_0000 % 2 - 0x1_c000_0000)))
+    → rounded (round binary32 s (w * 2 ^ e) (2 ^ 314)) ≡ Some (of_bits binary32 (b / 0x8000_0000_0000_0000 * 0x8000_0000 + (b % 0x8000_0000_0000_0000 / 0x2000_0000 + b % 0x8000_0000_0000_0000 / 0x2000_0000 % 2 - 0x1_c000_0000)))
 tie_round s w e b small f lo hi m = go (seen s (w * 2 ^ e) (2 ^ 314) b (pow_pos 314) f (lt_of_lt_of_le hi (lit≤ tt)))
   where
     n_is : w * 2 ^ e * 2 ^ 1074 ≡ w * 2 ^ (e + 760) * 2 ^ 314
     n_is = mul_assoc w (2 ^ e) (2 ^ 1074) ∙ ap (λ (x : ℕ). w * x) (sym (pow-add 2 e 1074) ∙ ap (λ (x : ℕ). 2 ^ x) (omega arith) ∙ pow-add 2 (e + 760) 314) ∙ sym (mul_assoc w (2 ^ (e + 760)) (2 ^ 314))
 
-    go : Seen s (w * 2 ^ e) (2 ^ 314) b → rounded (round binary32 s (w * 2 ^ e) (2 ^ 314)) ≡ Finite (of_bits binary32 (b / 0x8000_0000_0000_0000 * 0x8000_0000 + (b % 0x8000_0000_0000_0000 / 0x2000_0000 + b % 0x8000_0000_0000_0000 / 0x2000_0000 % 2 - 0x1_c000_0000)))
+    go : Seen s (w * 2 ^ e) (2 ^ 314) b → rounded (round binary32 s (w * 2 ^ e) (2 ^ 314)) ≡ Some (of_bits binary32 (b / 0x8000_0000_0000_0000 * 0x8000_0000 + (b % 0x8000_0000_0000_0000 / 0x2000_0000 + b % 0x8000_0000_0000_0000 / 0x2000_0000 % 2 - 0x1_c000_0000)))
     go v =
         let n = w * 2 ^ e * 2 ^ 1074 in
         let u = 2 ^ 314 * 2 ^ v.k in
@@ -68,7 +68,7 @@ tie_round s w e b small f lo hi m = go (seen s (w * 2 ^ e) (2 ^ 314) b (pow_pos 
         let ge : 2 ^ 52 ≤ v.q = elim v.ge [ inl z ↦ absurd (omega arith) | inr g ↦ g ] in
         let q_is : n ≡ v.q * u = all_kept n (2 ^ 314) w (e + 760) v.k (pow_pos 314) small n_is v.dropped ∙ ap (λ (x : ℕ). x * u) v.kept in
         narrow_at s (w * 2 ^ e) (2 ^ 314) v.k j r (pow_pos 314) v.dropped (omega arith) (tie_closest n u v.q (mul-pos (pow_pos 314) (pow_pos v.k)) q_is (omega arith)) (omega arith) (omega arith) (omega arith)
-        ∙ ap (λ (x : ℕ). Finite (of_bits binary32 x)) (ap₂ (λ (x y : ℕ). x + y) (sym v.sign_is) (omega arith))
+        ∙ ap (λ (x : ℕ). Some (of_bits binary32 x)) (ap₂ (λ (x y : ℕ). x + y) (sym v.sign_is) (omega arith))
 
 -- ---- a and b are whole numbers of one unit, and not more than 53 digits together
 abbrev Near : ℕ → ℕ → Type 0
@@ -143,7 +143,7 @@ near_sum f s t a b (x, y, e, p, q, h) =
 pub tie_fused : (a b c : Float) → T (fits binary32 a) → T (fits binary32 b) → T (fits binary32 c) → T (finite a) × T (finite b) → T (finite c)
     → exact_of (to_bits binary32 a) (to_bits binary32 b) (to_bits binary32 c) ≡ true → (w : ℕ) → to_bits binary64 (Wide a b c) ≡ w
     → 0x3810_0000_0000_0000 < w % 0x8000_0000_0000_0000 → w % 0x8000_0000_0000_0000 < 0x47ef_ffff_e000_0000 → w % 0x8000_0000_0000_0000 % 0x2000_0000 ≡ 0x1000_0000
-    → fused_of a b c ≡ Finite (of_bits binary32 (w / 0x8000_0000_0000_0000 * 0x8000_0000 + (w % 0x8000_0000_0000_0000 / 0x2000_0000 + w % 0x8000_0000_0000_0000 / 0x2000_0000 % 2 - 0x1_c000_0000)))
+    → fused_of a b c ≡ Some (of_bits binary32 (w / 0x8000_0000_0000_0000 * 0x8000_0000 + (w % 0x8000_0000_0000_0000 / 0x2000_0000 + w % 0x8000_0000_0000_0000 / 0x2000_0000 % 2 - 0x1_c000_0000)))
 unfolding fused_of
 tie_fused nan b c p q o f g k w e lo hi on = absurd f.0
 tie_fused (inf s) b c p q o f g k w e lo hi on = absurd f.0

@@ -1,5 +1,6 @@
 -- A number rounded to f64 and then to f32 is the number rounded to f32, where the f64 is not in the middle of two neighbouring f32: every such middle is an
 -- f64, so that the number and its nearest f64 lie on the same side of each.
+use Rattle.std.specs.Prelude.{None, Some}
 use Rattle.std.proofs.Common.{◌≡◌, ℕ, zero, suc, ◌+◌, ◌-◌, ◌*◌, ◌/◌, ◌%◌, ◌^◌, ◌<◌, ◌≤◌, Bool, true, false, cond, ◌⊎◌, sym, refl, ap, ◌∙◌, subst, ap₂, inl, inr, le_trans, le_of_eq, lt_of_lt_of_le, le_of_suc-le-suc, lt_of_le_of_lt, add_assoc, mul-le-mul_right, mod-lt, mul_assoc, suc-mul, mul_comm, div-lt_iff_lt-mul, add-mul, lt_of_mul-lt-mul_right, mul-le-mul_left, mul-pos, div-add-mod', le-div_iff_mul-le, mul-one, mul_right_comm, le_of_mul-le-mul_right, mul_left_comm, arith, lit<, lit≤, pow_pos, pow_mono, pow-add, le-ltb}
 use Prim.Native.Nat.{compare}
 use lib.Arith.{lt_of_le-ne}
@@ -9,7 +10,6 @@ use lib.Ieee.Fits.{nearest-le, round_is}
 use lib.Ieee.Exact.{HasValue, units_val}
 use lib.Ieee.Nearest.{closest, closest_same, nearest-ge}
 use lib.Ieee.Order.{drop}
-use Rattle.float.specs.declared.Rounded.TheVariants.{Finite, Nothing}
 use Rattle.float.specs.Finite.{rounded}
 use Rattle.float.specs.Inside.{Narrowed}
 use Rattle.float.proofs.Sticky.{side, div_is, closest_down, closest_up, pow_lt_back, Dropped, drop_bounds, drop_is}
@@ -172,31 +172,31 @@ seen s n c b C e h =
     no : b % 0x8000_0000_0000_0000 ≡ 0x7ff0_0000_0000_0000 → ⊥
     no z = omega arith
 
-has_rounded : (v : Float) (s : Bool) (a c : ℕ) → HasValue v s a c → rounded v ≡ Finite v
+has_rounded : (v : Float) (s : Bool) (a c : ℕ) → HasValue v s a c → rounded v ≡ Some v
 has_rounded nan s a c h = absurd h
 has_rounded (inf t) s a c h = absurd h
 has_rounded (fin t m e) s a c h = refl
 
 -- ---- where f64 keeps q, f32 keeps r, and the f32 is normal
 pub narrow_at : (s : Bool) (n c k j r : ℕ) → 0 < c → Dropped 53 (n * 2 ^ 1074) c k → k ≡ j + 896 → closest (n * 2 ^ 1074) (c * 2 ^ k * 0x2000_0000) ≡ r → r ≤ 2 ^ 24 → 2 ^ 23 ≤ r → j * 8388608 + r < 2139095040
-    → rounded (round binary32 s n c) ≡ Finite (of_bits binary32 (cond s 0x8000_0000 0 + (j * 8388608 + r)))
+    → rounded (round binary32 s n c) ≡ Some (of_bits binary32 (cond s 0x8000_0000 0 + (j * 8388608 + r)))
 narrow_at s n c k j r C d k_is e le ge top =
     ap rounded (narrow_units n c j C s r (subst (λ (x : ℕ). Dropped 53 (n * 2 ^ 1074) c x) k_is d) (subst (λ (x : ℕ). closest (n * 2 ^ 1074) (c * 2 ^ x * 0x2000_0000) ≡ r) k_is e))
     ∙ has_rounded (units binary32 s r j) s (r * 2 ^ j) (2 ^ 149) (units_val binary32 s r j (in_range r j le (inr ge) top))
-    ∙ ap Finite (sym (pack_in s r j le (inr ge) top))
+    ∙ ap Some (sym (pack_in s r j le (inr ge) top))
 
 -- ---- an f64 that is neither subnormal nor an infinity in f32, nor in the middle of two f32
 pub narrow_round : (s : Bool) (n c b : ℕ) → 0 < c → to_bits binary64 (round binary64 s n c) ≡ b
-    → 0x3810_0000_0000_0000 < b % 0x8000_0000_0000_0000 → b % 0x8000_0000_0000_0000 < 0x47ef_ffff_e000_0000 → (b % 0x8000_0000_0000_0000 % 0x2000_0000 ≡ 0x1000_0000 → ⊥) → rounded (round binary32 s n c) ≡ Finite (of_bits binary32 (b / 0x8000_0000_0000_0000 * 0x8000_0000 + ((b % 0x8000_0000_0000_0000 + 0x1000_0000) / 0x2000_0000 - 0x1_c000_0000)))
+    → 0x3810_0000_0000_0000 < b % 0x8000_0000_0000_0000 → b % 0x8000_0000_0000_0000 < 0x47ef_ffff_e000_0000 → (b % 0x8000_0000_0000_0000 % 0x2000_0000 ≡ 0x1000_0000 → ⊥) → rounded (round binary32 s n c) ≡ Some (of_bits binary32 (b / 0x8000_0000_0000_0000 * 0x8000_0000 + ((b % 0x8000_0000_0000_0000 + 0x1000_0000) / 0x2000_0000 - 0x1_c000_0000)))
 narrow_round s n c b C e lo hi m = go (seen s n c b C e (lt_of_lt_of_le hi (lit≤ tt)))
   where
-    go : Seen s n c b → rounded (round binary32 s n c) ≡ Finite (of_bits binary32 (b / 0x8000_0000_0000_0000 * 0x8000_0000 + ((b % 0x8000_0000_0000_0000 + 0x1000_0000) / 0x2000_0000 - 0x1_c000_0000)))
+    go : Seen s n c b → rounded (round binary32 s n c) ≡ Some (of_bits binary32 (b / 0x8000_0000_0000_0000 * 0x8000_0000 + ((b % 0x8000_0000_0000_0000 + 0x1000_0000) / 0x2000_0000 - 0x1_c000_0000)))
     go v =
         let j = v.k - 896 in
         let r = (v.q + 0x1000_0000) / 0x2000_0000 in
         let ge : 2 ^ 52 ≤ v.q = elim v.ge [ inl z ↦ absurd (omega arith) | inr g ↦ g ] in
         narrow_at s n c v.k j r C v.dropped (omega arith) (narrow_closest (n * 2 ^ 1074) (c * 2 ^ v.k) v.q (mul-pos C (pow_pos v.k)) v.kept (λ x. m (omega arith))) (omega arith) (omega arith) (omega arith)
-        ∙ ap (λ (x : ℕ). Finite (of_bits binary32 x)) (ap₂ (λ (x y : ℕ). x + y) (sym v.sign_is) (omega arith))
+        ∙ ap (λ (x : ℕ). Some (of_bits binary32 x)) (ap₂ (λ (x y : ℕ). x + y) (sym v.sign_is) (omega arith))
 
 -- ---- zero: a fraction that f64 rounds to zero is at most half of f64's smallest value, and so less than half of f32's
 module _ (s : Bool) (n c : ℕ) (C : 0 < c) (e : closest (n * 2 ^ 1074) (c * 2 ^ 0) ≡ 0) where
@@ -223,19 +223,19 @@ module _ (s : Bool) (n c : ℕ) (C : 0 < c) (e : closest (n * 2 ^ 1074) (c * 2 ^
       first : (x : ℕ) → x * 2 < c → closest x (c * 2 ^ 0) ≡ 0
       first x h = closest_down x (c * 2 ^ 0) 0 (omega arith) (omega arith) (omega arith)
 
-pub narrow_zero : (s : Bool) (n c b : ℕ) → 0 < c → to_bits binary64 (round binary64 s n c) ≡ b → b % 0x8000_0000_0000_0000 ≡ 0 → rounded (round binary32 s n c) ≡ Finite (of_bits binary32 (b / 0x8000_0000_0000_0000 * 0x8000_0000))
+pub narrow_zero : (s : Bool) (n c b : ℕ) → 0 < c → to_bits binary64 (round binary64 s n c) ≡ b → b % 0x8000_0000_0000_0000 ≡ 0 → rounded (round binary32 s n c) ≡ Some (of_bits binary32 (b / 0x8000_0000_0000_0000 * 0x8000_0000))
 narrow_zero s n c b C e z = go (seen s n c b C e (below z))
   where
     below : b % 0x8000_0000_0000_0000 ≡ 0 → b % 0x8000_0000_0000_0000 < 0x7ff0_0000_0000_0000
     below h = omega arith
 
-    go : Seen s n c b → rounded (round binary32 s n c) ≡ Finite (of_bits binary32 (b / 0x8000_0000_0000_0000 * 0x8000_0000))
+    go : Seen s n c b → rounded (round binary32 s n c) ≡ Some (of_bits binary32 (b / 0x8000_0000_0000_0000 * 0x8000_0000))
     go v =
         let k0 : v.k ≡ 0 = omega arith in
         let q0 : v.q ≡ 0 = omega arith in
         ap rounded (zero_units s n c C (subst (λ (x : ℕ). closest (n * 2 ^ 1074) (c * 2 ^ x) ≡ 0) k0 (v.kept ∙ q0)))
         ∙ has_rounded (units binary32 s 0 0) s 0 (2 ^ 149) (units_val binary32 s 0 0 (lit< tt))
-        ∙ ap Finite (sym (pack_in s 0 0 (lit≤ tt) (inl refl) (lit< tt)) ∙ ap (of_bits binary32) (omega (arith, v.sign_is)))
+        ∙ ap Some (sym (pack_in s 0 0 (lit≤ tt) (inl refl) (lit< tt)) ∙ ap (of_bits binary32) (omega (arith, v.sign_is)))
 
 -- ---- a subnormal f32, whose units are 2^925 of f64's: where f64 keeps q of units of 2 ^ k, t + 1 more digits are dropped
 pub low_le : (q t : ℕ) → q < 2 ^ 53 → 28 ≤ t → (q + 2 ^ t) / (2 * 2 ^ t) ≤ 2 ^ 24
@@ -267,7 +267,7 @@ module _ (n c k q t : ℕ) (C : 0 < c) (e : closest (n * 2 ^ 1074) (c * 2 ^ k) �
       (ap (λ (x : ℕ). n * 2 ^ 149 * x) w_is ∙ mul_left_comm (n * 2 ^ 149) c (2 ^ 925) ∙ ap (λ (x : ℕ). c * x) (sym (unit_is n c 0 C)) ∙ mul_comm c (n * 2 ^ 1074) ∙ ap (λ (x : ℕ). n * 2 ^ 1074 * x) (sym (mul-one c)))
       ∙ narrow_by (n * 2 ^ 1074) (c * 2 ^ k) q (2 ^ t) (mul-pos C (pow_pos k)) (pow_pos t) e m
 
-  low_at : (s : Bool) → (q % (2 * 2 ^ t) ≡ 2 ^ t → ⊥) → rounded (round binary32 s n c) ≡ Finite (of_bits binary32 (cond s 0x8000_0000 0 + (q + 2 ^ t) / (2 * 2 ^ t)))
+  low_at : (s : Bool) → (q % (2 * 2 ^ t) ≡ 2 ^ t → ⊥) → rounded (round binary32 s n c) ≡ Some (of_bits binary32 (cond s 0x8000_0000 0 + (q + 2 ^ t) / (2 * 2 ^ t)))
   low_at s m =
       let r = (q + 2 ^ t) / (2 * 2 ^ t) in
       let le : r ≤ 2 ^ 24 = low_le q t q-lt t-ge in
@@ -277,17 +277,17 @@ module _ (n c k q t : ℕ) (C : 0 < c) (e : closest (n * 2 ^ 1074) (c * 2 ^ k) �
       ∙ ap (λ (z : ℕ). units binary32 s (closest (n * 2 ^ 149) (c * 2 ^ z)) z) (drop_is 24 (n * 2 ^ 149) c 0 (lit< tt) C low_dropped)
       ∙ ap (λ (z : ℕ). units binary32 s z 0) (low_kept m))
       ∙ has_rounded (units binary32 s r 0) s (r * 2 ^ 0) (2 ^ 149) (units_val binary32 s r 0 (in_range r 0 le (inl refl) top))
-      ∙ ap Finite (sym (pack_in s r 0 le (inl refl) top) ∙ ap (of_bits binary32) (omega arith))
+      ∙ ap Some (sym (pack_in s r 0 le (inl refl) top) ∙ ap (of_bits binary32) (omega arith))
 
 -- the pattern's field is 925 - t and its significand q; a significand that was rounded up to 2^53 stands there as 2^52, one place higher
 pub narrow_low : (s : Bool) (n c b q t : ℕ) → 0 < c → to_bits binary64 (round binary64 s n c) ≡ b → b % 0x8000_0000_0000_0000 / 0x10_0000_0000_0000 + t ≡ 925 → b % 0x8000_0000_0000_0000 % 0x10_0000_0000_0000 + 0x10_0000_0000_0000 ≡ q → 28 ≤ t → t < 900
-    → (q % (2 * 2 ^ t) ≡ 2 ^ t → ⊥) → rounded (round binary32 s n c) ≡ Finite (of_bits binary32 (b / 0x8000_0000_0000_0000 * 0x8000_0000 + (q + 2 ^ t) / (2 * 2 ^ t)))
+    → (q % (2 * 2 ^ t) ≡ 2 ^ t → ⊥) → rounded (round binary32 s n c) ≡ Some (of_bits binary32 (b / 0x8000_0000_0000_0000 * 0x8000_0000 + (q + 2 ^ t) / (2 * 2 ^ t)))
 narrow_low s n c b q t C e f g lo hi m = go (seen s n c b C e (omega arith))
   where
-    signs : (x y r : ℕ) → x ≡ y → Finite (of_bits binary32 (y + r)) ≡ Finite (of_bits binary32 (x + r))
-    signs x y r h = ap (λ (z : ℕ). Finite (of_bits binary32 (z + r))) (sym h)
+    signs : (x y r : ℕ) → x ≡ y → Some (of_bits binary32 (y + r)) ≡ Some (of_bits binary32 (x + r))
+    signs x y r h = ap (λ (z : ℕ). Some (of_bits binary32 (z + r))) (sym h)
 
-    go : Seen s n c b → rounded (round binary32 s n c) ≡ Finite (of_bits binary32 (b / 0x8000_0000_0000_0000 * 0x8000_0000 + (q + 2 ^ t) / (2 * 2 ^ t)))
+    go : Seen s n c b → rounded (round binary32 s n c) ≡ Some (of_bits binary32 (b / 0x8000_0000_0000_0000 * 0x8000_0000 + (q + 2 ^ t) / (2 * 2 ^ t)))
     go v =
         let i = v.size_is in
         let le = v.le in
@@ -308,15 +308,15 @@ narrow_low s n c b q t C e f g lo hi m = go (seen s n c b C e (omega arith))
             ap (closest (n * 2 ^ 1074)) (ap (λ (x : ℕ). c * 2 ^ x) next ∙ ap (λ (x : ℕ). c * x) (pow-add 2 k 1) ∙ sym (mul_assoc c (2 ^ k) 2)) ∙ narrow_by (n * 2 ^ 1074) (c * 2 ^ k) (2 ^ 53) 1 (mul-pos C (pow_pos k)) (lit< tt) h (λ x. omega arith)
 
 -- ---- the contract of `narrowed`, for each of its answers
-pub none : (b : ℕ) → Narrowed b Nothing
+pub none : (b : ℕ) → Narrowed b None
 none b x e = absurd (let z : ◌≡◌ {A = ℕ} 0 1 = cc in omega arith)
 
-pub some : (b : ℕ) → 0x3810_0000_0000_0000 < b % 0x8000_0000_0000_0000 → b % 0x8000_0000_0000_0000 < 0x47ef_ffff_e000_0000 → (b % 0x8000_0000_0000_0000 % 0x2000_0000 ≡ 0x1000_0000 → ⊥) → Narrowed b (Finite (of_bits binary32 (b / 0x8000_0000_0000_0000 * 0x8000_0000 + ((b % 0x8000_0000_0000_0000 + 0x1000_0000) / 0x2000_0000 - 0x1_c000_0000))))
+pub some : (b : ℕ) → 0x3810_0000_0000_0000 < b % 0x8000_0000_0000_0000 → b % 0x8000_0000_0000_0000 < 0x47ef_ffff_e000_0000 → (b % 0x8000_0000_0000_0000 % 0x2000_0000 ≡ 0x1000_0000 → ⊥) → Narrowed b (Some (of_bits binary32 (b / 0x8000_0000_0000_0000 * 0x8000_0000 + ((b % 0x8000_0000_0000_0000 + 0x1000_0000) / 0x2000_0000 - 0x1_c000_0000))))
 some b lo hi m x e = (lt_of_lt_of_le hi (lit≤ tt), λ s n c C f. narrow_round s n c b C f lo hi m)
 
-pub zeros : (b : ℕ) → b % 0x8000_0000_0000_0000 ≡ 0 → Narrowed b (Finite (of_bits binary32 (b / 0x8000_0000_0000_0000 * 0x8000_0000)))
+pub zeros : (b : ℕ) → b % 0x8000_0000_0000_0000 ≡ 0 → Narrowed b (Some (of_bits binary32 (b / 0x8000_0000_0000_0000 * 0x8000_0000)))
 zeros b z x e = (omega arith, λ s n c C f. narrow_zero s n c b C f z)
 
 pub lows : (b q t : ℕ) → b % 0x8000_0000_0000_0000 / 0x10_0000_0000_0000 + t ≡ 925 → b % 0x8000_0000_0000_0000 % 0x10_0000_0000_0000 + 0x10_0000_0000_0000 ≡ q → 28 ≤ t → t < 900
-    → (q % (2 * 2 ^ t) ≡ 2 ^ t → ⊥) → Narrowed b (Finite (of_bits binary32 (b / 0x8000_0000_0000_0000 * 0x8000_0000 + (q + 2 ^ t) / (2 * 2 ^ t))))
+    → (q % (2 * 2 ^ t) ≡ 2 ^ t → ⊥) → Narrowed b (Some (of_bits binary32 (b / 0x8000_0000_0000_0000 * 0x8000_0000 + (q + 2 ^ t) / (2 * 2 ^ t))))
 lows b q t f g lo hi m x e = (omega arith, λ s n c C h. narrow_low s n c b q t C h f g lo hi m)

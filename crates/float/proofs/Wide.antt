@@ -1,12 +1,11 @@
 -- a * b + c in f64: a finite result has finite operands, and then the product is exact, so that the sum is the exact one, rounded once to f64.
+use Rattle.std.specs.Prelude.{Option, Some}
 use Rattle.std.proofs.Common.{◌≡◌, ℕ, ◌+◌, ◌*◌, ◌%◌, ◌^◌, ◌<◌, Bool, true, false, cond, T, eqb, ◌⊎◌, ℤ, sym, ap, ◌∙◌, subst, ap₂, inl, inr, lt_of_lt_of_le, mul_assoc, mul_comm, mul-pos, mul_left_comm, arith, lit≤, pow_mono, shl_lt}
 use mathlib.Core.Bool.{beq}
 use lib.Ieee.{Float, nan, inf, fin, Format, binary32, binary64, unlike, up, down, round, sum, add, mul, fits, to_bits}
 use lib.Ieee.Fits.{down_pos}
 use lib.Ieee.Exact.{HasValue, round_exact}
 use lib.Ieee.Scale.{finite}
-use Rattle.float.specs.declared.Rounded.{Rounded}
-use Rattle.float.specs.declared.Rounded.TheVariants.{Finite}
 use Rattle.float.specs.Finite.{rounded}
 use Rattle.float.specs.Fused.{fused_of}
 use Rattle.float.specs.Inside.{M, Q, mag_of, neg_of, Narrowed}
@@ -98,7 +97,7 @@ wide_is s m e t n d u l g x y p q =
 abbrev pub Wide : Float → Float → Float → Float
 Wide a b c = add binary64 (mul binary64 a b) c
 
-settled : (a b c : Float) (r : Rounded) (x : Float) → T (fits binary32 a) → T (fits binary32 b) → T (finite a) × T (finite b) → T (finite c) → Narrowed (to_bits binary64 (Wide a b c)) r → r ≡ Finite x → r ≡ fused_of a b c
+settled : (a b c : Float) (r : Option Float) (x : Float) → T (fits binary32 a) → T (fits binary32 b) → T (finite a) × T (finite b) → T (finite c) → Narrowed (to_bits binary64 (Wide a b c)) r → r ≡ Some x → r ≡ fused_of a b c
 unfolding fused_of
 settled nan b c r x p q f g h e = absurd f.0
 settled (inf s) b c r x p q f g h e = absurd f.0
@@ -116,7 +115,7 @@ settled (fin s m i) (fin t n j) (fin u l k) r x p q f g h e =
     (ap (to_bits binary64) (sym (wide_is s m i t n j u l k (to_bits binary32 (fin s m i)) (to_bits binary32 (fin t n j)) (decoded (fin s m i) p) (decoded (fin t n j) q) ∙ sum_is binary64 w a u b c))))
 
 -- w is what `wide_bits` answers; a NaN's pattern settles nothing
-pub narrow_fused : (a b c : Float) (w : ℕ) (r : Rounded) (x : Float) → T (fits binary32 a) → T (fits binary32 b) → (w ≡ 0x7ff8_0000_0000_0000) ⊎ (w ≡ to_bits binary64 (add binary64 (mul binary64 a b) c)) → Narrowed w r → r ≡ Finite x → r ≡ fused_of a b c
+pub narrow_fused : (a b c : Float) (w : ℕ) (r : Option Float) (x : Float) → T (fits binary32 a) → T (fits binary32 b) → (w ≡ 0x7ff8_0000_0000_0000) ⊎ (w ≡ to_bits binary64 (add binary64 (mul binary64 a b) c)) → Narrowed w r → r ≡ Some x → r ≡ fused_of a b c
 narrow_fused a b c w r x p q (inl k) h e = absurd (let l = (h x e).0 in omega arith)
 narrow_fused a b c w r x p q (inr k) h e =
     let g : Narrowed (to_bits binary64 (Wide a b c)) r = subst (λ (n : ℕ). Narrowed n r) k h in

@@ -5,6 +5,8 @@ use lib.Arith.{lt-one}
 use lib.Bits.{bit_and, and_mask}
 use lib.Ieee.{Float, nan, inf, fin, binary32, up, down, ne, is_nan, nan_bits}
 use lib.Ieee.Bits.{is_true, nan_bits_above}
+use lib.Ieee.Scale.{finite}
+use Rattle.std.specs.Float.{float_is_finite}
 
 -- 1 << d
 pub unit_is : (d : ℕ) → d < 64 → 1 * 2 ^ d % 18446744073709551616 ≡ 2 ^ d
@@ -31,6 +33,13 @@ differs (inf true) = refl
 differs (inf false) = refl
 differs (fin true m e) = simp (self (m * up e * down e))
 differs (fin false m e) = simp (self (m * up e * down e))
+
+-- two definitions of one test
+pub finite_is : (x : Float) → float_is_finite x ≡ finite x
+unfolding float_is_finite
+finite_is nan = refl
+finite_is (inf s) = refl
+finite_is (fin s m e) = refl
 
 pub T-not-of : {b : Bool} → b ≡ false → T (not b)
 T-not-of {b} h = subst (λ (t : Bool). T (not t)) (sym h) tt

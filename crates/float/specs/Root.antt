@@ -1,9 +1,7 @@
 -- The square root, rounded once: document 01's square root. What this text comes to is said without roots in Nearest, and proved.
-use Rattle.std.specs.Prelude.{ℕ, zero, suc, ◌+◌, ◌*◌, ◌/◌, ◌^◌, true, false, cond, ◌==◌, nat_le, Float}
+use Rattle.std.specs.Prelude.{ℕ, zero, suc, ◌+◌, ◌*◌, ◌/◌, ◌^◌, true, false, cond, ◌==◌, nat_le, Float, None, Option, Some}
 use Rattle.std.specs.Float.{nan, inf, fin, binary32}
 use Rattle.std.specs.Float.Ieee.{up, down, size, round}
-use Rattle.float.specs.declared.Rounded.{Rounded}
-use Rattle.float.specs.declared.Rounded.TheVariants.{Finite, Nothing}
 use Rattle.float.specs.Finite.{rounded}
 
 -- The largest number whose square is at most n, digit by digit: k digits are left to be found, and r is what was found.
@@ -22,9 +20,9 @@ twice_root n = let r = integer_root n in 2 * r + cond (r * r == n) 0 1
 
 -- '−0 gives −0; other negatives and non-finite values get the word.' Otherwise the root of x is that of x * 2 ^ 300, over 2 ^ 150. Twice that root stands with at
 -- least 76 digits, so one rounding of it is the rounding of the root.
-unfoldable pub root_of : Float → Rounded
-root_of nan = Nothing
-root_of (inf s) = Nothing
-root_of (fin s zero e) = Finite (fin s zero e)
-root_of (fin true (suc m) e) = Nothing
+unfoldable pub root_of : Float → Option Float
+root_of nan = None
+root_of (inf s) = None
+root_of (fin s zero e) = Some (fin s zero e)
+root_of (fin true (suc m) e) = None
 root_of (fin false (suc m) e) = rounded (round binary32 false (twice_root (suc m * up e * 2 ^ 300 / down e)) (2 ^ 151))

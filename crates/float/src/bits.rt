@@ -30,11 +30,7 @@ pub(crate) fn significand(bits: u32) -> u64
 pub(crate) fn place(bits: u32) -> u32
     ensures { result ≡ Q bits }
 {
-    let x = field(bits);
-    if x == 0 {
-        return 1;
-    }
-    x
+    field(bits).max(1)
 }
 
 // The exponent of the significand's lowest digit, from -149 to 104.

@@ -7,7 +7,6 @@ ghost use Rattle.std.specs.Float.Ieee.{round, sum};
 ghost use Rattle.float.specs.Finite.{rounded};
 ghost use Rattle.float.specs.Inside.{jam_of, mag_of, neg_of, fused_bits_of};
 
-use super::Rounded;
 use super::bits::{exponent, negative, significand};
 use super::rounding::{above, magnitude_bits, pack};
 
@@ -53,77 +52,99 @@ pub(crate) fn jam(m: u64, d: u32) -> u64
     k / 2 * 2 + 1
 }
 
-// The sign and the size of ±x ±y. A difference that is zero is not negative.
-fn sum_negative(s: bool, x: u64, t: bool, y: u64) -> bool
-    ensures { result ≡ neg_of s x t y }
-{
-    if s == t {
-        return s;
-    }
-    if x < y {
-        return t;
-    }
-    if y < x {
-        return s;
-    }
-    false
+// ±size * 2^exponent.
+#[derive(Clone, Copy)]
+struct Term {
+    negative: bool,
+    size: u64,
+    exponent: i32,
 }
 
-fn sum_size(s: bool, x: u64, t: bool, y: u64) -> u64
-    requires { x + y < 2 ^ 63 }
-    ensures { result ≡ mag_of s x t y }
-{
-    if s == t {
-        return x + y;
+impl Term {
+    // ±size ±size, at this exponent. A difference that is zero is not negative.
+    fn plus(self, other: Term) -> Term
+        requires { self.size + other.size < 2 ^ 63 }
+        ensures negative { result.negative ≡ neg_of self.negative self.size other.negative other.size }
+        ensures size { result.size ≡ mag_of self.negative self.size other.negative other.size }
+        ensures exponent { result.exponent ≡ self.exponent }
+    {
+        if self.negative == other.negative {
+            return Term {
+                size: self.size + other.size,
+                ..self
+            };
+        }
+        if self.size < other.size {
+            return Term {
+                negative: other.negative,
+                size: other.size - self.size,
+                ..self
+            };
+        }
+        Term {
+            negative: self.negative && other.size < self.size,
+            size: self.size - other.size,
+            ..self
+        }
     }
-    if x < y {
-        return y - x;
+
+    fn rounded(self) -> Option<f32>
+        requires { (self.size < 2 ^ 63) × (mag self.exponent < 1000) }
+        ensures { (i : ℕ) → self.exponent ≡ sub_ℕ i 314 → result ≡ rounded (round binary32 self.negative (self.size * 2 ^ i) (2 ^ 314)) }
+    {
+        pack(self.negative, magnitude_bits(self.size, self.exponent))
     }
-    x - y
 }
 
-// ±x ±y, at the exponent e, rounded once.
-fn rounded_sum(s: bool, x: u64, t: bool, y: u64, e: i32) -> Rounded
-    requires { (x + y < 2 ^ 63) × (mag e < 1000) }
-    ensures { (i : ℕ) → e ≡ sub_ℕ i 314 → result ≡ rounded (round binary32 (neg_of s x t y) (mag_of s x t y * 2 ^ i) (2 ^ 314)) }
+// The term of the higher exponent, and the lower one cut off there.
+fn jammed_sum(high: Term, low: Term) -> Option<f32>
+    requires { (high.size + low.size + 1 < 2 ^ 63) × (mag high.exponent < 1000) × (mag low.exponent < 1000) }
+    ensures { (i j : ℕ) → high.exponent ≡ sub_ℕ i 314 → low.exponent ≡ sub_ℕ j 314
+        → result ≡ rounded (round binary32 (neg_of high.negative high.size low.negative (jam_of low.size (i - j))) (mag_of high.negative high.size low.negative (jam_of low.size (i - j)) * 2 ^ i) (2 ^ 314)) }
 {
-    let neg = sum_negative(s, x, t, y);
-    let bits = magnitude_bits(sum_size(s, x, t, y), e);
-    pack(neg, bits)
-}
-
-// ±x at the exponent e, the higher one, and ±y at d, cut off there.
-fn jammed_sum(s: bool, x: u64, e: i32, t: bool, y: u64, d: i32) -> Rounded
-    requires { (x + y + 1 < 2 ^ 63) × (mag e < 1000) × (mag d < 1000) }
-    ensures { (i j : ℕ) → e ≡ sub_ℕ i 314 → d ≡ sub_ℕ j 314 → result ≡ rounded (round binary32 (neg_of s x t (jam_of y (i - j))) (mag_of s x t (jam_of y (i - j)) * 2 ^ i) (2 ^ 314)) }
-{
-    rounded_sum(s, x, t, jam(y, gap(e, d)), e)
+    let size = jam(low.size, gap(high.exponent, low.exponent));
+    high.plus(Term {
+        size,
+        exponent: high.exponent,
+        ..low
+    })
+    .rounded()
 }
 
 // ±p ±c, with 14 places free below the product and 38 below the addend.
-fn aligned_sum(s: bool, p: u64, e: i32, t: bool, c: u64, d: i32) -> Rounded
-    requires { (p < 2 ^ 48) × (c < 2 ^ 24) × (mag e < 1000) × (mag d < 1000) }
-    ensures { (x y : ℕ) → e ≡ sub_ℕ x 314 → d ≡ sub_ℕ y 314 → (8388608 ≤ p) ⊎ (x ≤ 163) → (8388608 ≤ c) ⊎ (y ≤ 163) → result ≡ rounded (sum binary32 s (p * 2 ^ 14 * 2 ^ x) t (c * 2 ^ 38 * 2 ^ y) (2 ^ 314)) }
+fn aligned_sum(product: Term, addend: Term) -> Option<f32>
+    requires { (product.size < 2 ^ 48) × (addend.size < 2 ^ 24) × (mag product.exponent < 1000) × (mag addend.exponent < 1000) }
+    ensures { (x y : ℕ) → product.exponent ≡ sub_ℕ x 314 → addend.exponent ≡ sub_ℕ y 314 → (8388608 ≤ product.size) ⊎ (x ≤ 163) → (8388608 ≤ addend.size) ⊎ (y ≤ 163)
+        → result ≡ rounded (sum binary32 product.negative (product.size * 2 ^ 14 * 2 ^ x) addend.negative (addend.size * 2 ^ 38 * 2 ^ y) (2 ^ 314)) }
 {
-    if d < e {
-        return jammed_sum(s, p << 14, e, t, c << 38, d);
+    let product = Term {
+        size: product.size << 14,
+        ..product
+    };
+    let addend = Term {
+        size: addend.size << 38,
+        ..addend
+    };
+    if addend.exponent < product.exponent {
+        return jammed_sum(product, addend);
     }
-    jammed_sum(t, c << 38, d, s, p << 14, e)
+    jammed_sum(addend, product)
 }
 
 // On three patterns, all of finite floats.
-pub(crate) fn fused_bits(x: u32, y: u32, z: u32) -> Rounded
+pub(crate) fn fused_bits(x: u32, y: u32, z: u32) -> Option<f32>
     ensures { result ≡ fused_bits_of x y z }
 {
-    let p = significand(x) * significand(y);
-    let e = product_exponent(p, exponent(x), exponent(y));
-    let s = negative(x) != negative(y);
-    aligned_sum(
-        s,
-        p,
-        e,
-        negative(z),
-        significand(z),
-        addend_exponent(exponent(z)),
-    )
+    let size = significand(x) * significand(y);
+    let product = Term {
+        negative: negative(x) != negative(y),
+        size,
+        exponent: product_exponent(size, exponent(x), exponent(y)),
+    };
+    let addend = Term {
+        negative: negative(z),
+        size: significand(z),
+        exponent: addend_exponent(exponent(z)),
+    };
+    aligned_sum(product, addend)
 }

@@ -6,33 +6,20 @@ ghost use Rattle.std.specs.Float.Ieee.Scale.{finite};
 ghost use Rattle.float.specs.Fused.{fused_of};
 ghost use Rattle.float.specs.Settled.{normal_size, evened_of, exact_of, settled_by, quick_of};
 
-use super::Rounded;
 use super::bits::place;
 
-// The f32, which is the fused sum only where it is settled.
+// The f32, which is the fused sum only where it is settled. A flag and no `Option`, which would put a branch into a loop over several sums.
 #[derive(Clone, Copy)]
 pub struct Quick {
     pub sum: f32,
     pub settled: bool,
 }
 
-// By functions and not by `&&` and `||`, which would skip the second.
+// By `&`, as below by `|`: `&&` and `||` would skip the second.
 pub fn both(a: bool, b: bool) -> bool
     ensures { result ≡ (a && b) }
 {
-    if a {
-        return b;
-    }
-    false
-}
-
-fn either(a: bool, b: bool) -> bool
-    ensures { result ≡ (a || b) }
-{
-    if a {
-        return true;
-    }
-    b
+    a & b
 }
 
 fn upper(bits: u64) -> u32
@@ -48,10 +35,11 @@ fn lower(bits: u64) -> u32
 }
 
 // An f64 among the normal f32, by the upper half of its pattern without the sign. The few at the ends are left out, so that the upper half tells.
+#[tactic(auto, unfolding(crate::specs::Settled::normal_size))]
 fn normal(size: u32) -> bool
     ensures { result ≡ normal_size size }
 {
-    both(0x3810_0000 < size, size < 0x47ef_ffff)
+    (0x3810_0000 < size) & (size < 0x47ef_ffff)
 }
 
 // The f32 nearest to the f64 of these halves, from a middle the even one; outside the normal f32 a zero of its sign.
@@ -70,33 +58,30 @@ fn evened(high: u32, low: u32) -> f32
 
 // Whether the exact sum has at most 53 digits, by the patterns of the operands: a product has 48 and an addend 24, so the addend may stand 4 places below the
 // product or 28 above it; or it is zero.
+#[tactic(auto, unfolding(crate::specs::Settled::exact_of))]
 fn exact(x: u32, y: u32, z: u32) -> bool
     ensures { result ≡ exact_of x y z }
 {
     let p = place(x) + place(y);
     let q = place(z);
-    either(z % 0x8000_0000 == 0, both(p <= q + 154, q + 122 <= p))
+    (z % 0x8000_0000 == 0) | (p <= q + 154) & (q + 122 <= p)
 }
 
 // Whether the halves of an f64 settle the f32: it is zero, or a normal f32 is near and it is in no middle, or is the sum itself.
+#[tactic(auto, unfolding(crate::specs::Settled::settled_by))]
 fn settles(high: u32, low: u32, exact: bool) -> bool
     ensures { result ≡ settled_by high low exact }
 {
     let size = high % 0x8000_0000;
-    either(
-        both(size == 0, low == 0),
-        both(
-            normal(size),
-            either(low % 0x2000_0000 != 0x1000_0000, exact),
-        ),
-    )
+    let in_middle = low % 0x2000_0000 == 0x1000_0000;
+    (size == 0) & (low == 0) | normal(size) & (!in_middle | exact)
 }
 
 // All but the f64 itself is worked out in halves of it: of those a processor has twice as many at once.
 pub fn quick_sum(a: f32, b: f32, c: f32) -> Quick
     requires { T (finite a) × T (finite b) × T (finite c) }
     ensures value { result ≡ quick_of a b c }
-    ensures sum_value { result.settled ≡ true → Rounded.Finite result.sum ≡ fused_of a b c }
+    ensures sum_value { result.settled ≡ true → Some result.sum ≡ fused_of a b c }
 {
     let bits = f64::to_bits(a as f64 * b as f64 + c as f64);
     let high = upper(bits);

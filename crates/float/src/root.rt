@@ -4,57 +4,30 @@ ghost use Rattle.std.proofs.Math.IntN.{sub_ℕ};
 ghost use Rattle.std.specs.Float.{binary32};
 ghost use Rattle.std.specs.Float.Ieee.{round};
 ghost use Rattle.float.specs.Finite.{rounded};
+ghost use Rattle.float.specs.Inside.{M, Q};
 ghost use Rattle.float.specs.Root.{integer_root, twice_root};
 
-use super::Rounded;
+use super::bits::{place, significand};
 use super::rounding::{magnitude_bits, pack};
-use super::whole::saturating;
+use std::num::{nearest_u64_to_f64, saturating_f64_to_u64};
 
-// A guess at the root of an n from 2^61 to 2^63: a line that is within 3 % of it, and three of Heron's steps. The little that is added keeps an exact root from
-// being cut to the number below. The guess is tested, so nothing is proved of it but that its square fits.
+// A guess at the root of an n from 2^61 to 2^63, by the processor's f64. The guess is tested, so nothing is proved of it but that its square fits.
 fn near_root(n: u64) -> u64
     ensures { result < 2 ^ 32 }
 {
-    let x = std::num::nearest_u64_to_f64(n);
-    let line = x * 0.000000000226 + 1042200000.0;
-    let first = (line + x / line) * 0.5;
-    let second = (first + x / first) * 0.5;
-    let third = (second + x / second) * 0.5;
-    let guess = saturating(third + 0.0000152587890625);
-    if guess < 0x1_0000_0000 {
-        return guess;
-    }
-    0
+    saturating_f64_to_u64(nearest_u64_to_f64(n).sqrt()).min(0xffff_ffff)
 }
 
-// The largest r with r * r <= n, bit by bit from the top.
-fn root_by_digits(n: u64) -> u64
-    ensures { (result ≡ integer_root n) × (result < 2 ^ 32) }
-{
-    let mut r = 0;
-    let mut i: u32 = 32;
-    while 0 < i {
-        i -= 1;
-        let t = r + (1 << i);
-        if t * t <= n {
-            r = t;
-        }
-    }
-    r
-}
-
-// The same, by a guess that is tested; where it misses, about once in 50,000 roots, by the digits.
+// The largest r with r * r <= n, by a guess that is tested; where it misses, digit by digit.
 fn integer_root(n: u64) -> u64
     ensures { (result ≡ integer_root n) × (result < 2 ^ 32) }
 {
     let r = near_root(n);
     let square = r * r;
-    if square <= n {
-        if n <= square + 2 * r {
-            return r;
-        }
+    if square <= n && n <= square + 2 * r {
+        return r;
     }
-    root_by_digits(n)
+    n.isqrt()
 }
 
 // How far a significand m at a place is moved up: its top digit comes to bit 61 or 62, so that what is left of its exponent is even.
@@ -85,11 +58,13 @@ fn sticky_root(n: u64) -> u64
     2 * r + 1
 }
 
-// The root of m * 2^(place - 150).
-pub(crate) fn positive_root(m: u64, place: u32) -> Rounded
-    requires { (0 < m) × (m < 2 ^ 24) × (place < 256) }
-    ensures { result ≡ rounded (round binary32 false (twice_root (m * 2 ^ (place + 150))) (2 ^ 151)) }
+// The root of a pattern's size.
+pub(crate) fn positive_root(bits: u32) -> Option<f32>
+    requires { 0 < M bits }
+    ensures { result ≡ rounded (round binary32 false (twice_root (M bits * 2 ^ (Q bits + 150))) (2 ^ 151)) }
 {
+    let m = significand(bits);
+    let place = place(bits);
     let up = lift(m, place);
     let w = sticky_root(m << up);
     pack(false, magnitude_bits(w, root_exponent(place, up)))

@@ -1,5 +1,6 @@
 // One rounding for the fused sum, the root and a count: a word times a power of two to the bits of the nearest f32, a tie to the even one.
 // Exponents are i32. A contract names an exponent's place, counted from -314, as a natural number: whoever knows it gets the answer in natural numbers.
+// Each contract says how far its exponents lie from 0, and no type does: sums and differences lie further, each by its own bound, and would need more types.
 ghost use Rattle.std.specs.Prelude.{◌≡◌, ℕ, ◌+◌, ◌-◌, ◌*◌, ◌^◌, ◌<◌, ◌≤◌, Bool};
 ghost use Rattle.std.proofs.Math.IntN.{sub_ℕ};
 ghost use Rattle.std.specs.Int.Signed.{mag};
@@ -9,17 +10,12 @@ ghost use Rattle.std.specs.Float.Ieee.Nearest.{closest};
 ghost use Rattle.float.specs.Finite.{rounded};
 ghost use Rattle.float.specs.Inside.{pack_of};
 
-use super::Rounded;
-
 // d where it is above 0, and 0 elsewhere.
 pub(crate) fn above(d: i32) -> u32
     requires { mag d < 3000 }
     ensures { (result < 3001) × ((x y : ℕ) → d ≡ sub_ℕ x y → result ≡ x - y) }
 {
-    if d < 0 {
-        return 0;
-    }
-    d as u32
+    d.max(0) as u32
 }
 
 // How far d is below 0, and 0 elsewhere.
@@ -68,15 +64,15 @@ pub(crate) fn magnitude_bits(w: u64, e: i32) -> u64
 }
 
 // The float of a sign and the bits without it, where there is a finite one.
-pub(crate) fn pack(negative: bool, bits: u64) -> Rounded
+pub(crate) fn pack(negative: bool, bits: u64) -> Option<f32>
     ensures { result ≡ pack_of negative bits }
 {
     if 0x7f80_0000 <= bits {
-        return Rounded::Nothing;
+        return None;
     }
     let m = bits as u32;
     if negative {
-        return Rounded::Finite(f32::from_bits(0x8000_0000 + m));
+        return Some(f32::from_bits(0x8000_0000 + m));
     }
-    Rounded::Finite(f32::from_bits(m))
+    Some(f32::from_bits(m))
 }

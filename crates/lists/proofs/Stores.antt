@@ -1,12 +1,12 @@
 -- Stores into a lent slice, one after the other: `sets l i vs` of lib.Seq, for any element. Assumes nothing.
 use mathlib.Core.Path.{◌≡◌, sym, ap, ◌∙◌}
-use mathlib.Core.List.{List, [], ◌∷◌, ◌++◌}
+use mathlib.Core.List.{List, [], ◌∷◌, ◌++◌, append_assoc}
 use Prim.Native.Nat.{ℕ, suc, ◌+◌, ◌-◌, ◌≤◌, ◌<◌}
 use native.Mathlib.Nat.{zero-add, add-zero}
 use native.Mathlib.Numerals.{add-one}
 use native.Mathlib.Omega.{arith}
 use lib.ListN.{length, take, drop, get_or, set, replicate, length-set, drop_of_length-le}
-use lib.Seq.{sets, sets-eq, drop-cons, drop-set-lt}
+use lib.Seq.{sets, sets-eq, drop-cons, drop-set-lt, drop-drop}
 
 module _ {A : Type 0} where
   -- one store, and the rest after it
@@ -20,6 +20,12 @@ module _ {A : Type 0} where
   -- from the slice's start
   pub sets_all : (l vs : List A) → length vs ≤ length l → sets l 0 vs ≡ vs ++ drop (length vs) l
   sets_all l vs h = rw (sets-eq vs l 0 (omega arith), zero-add (length vs))
+
+  -- what a part's own store leaves of the whole
+  pub sets_mid : (l vs ws : List A) (i k : ℕ) → i + length vs ≤ length l → k ≡ length vs → ws ≡ vs → take i l ++ (ws ++ drop k (drop i l)) ≡ sets l i vs
+  sets_mid l vs ws i k h e w =
+      let far : drop k (drop i l) ≡ drop (i + length vs) l = drop-drop k i l ∙ ap (λ n. drop (i + n) l) e in
+      rw (w, far, sets-eq vs l i h) (sym (append_assoc (take i l) vs (drop (i + length vs) l)))
 
   -- what a store left does not show where it is written over
   pub sets_over : (l : List A) (i : ℕ) (v : A) (vs : List A) → i < length vs → length vs ≤ length l → sets (set l i v) 0 vs ≡ sets l 0 vs

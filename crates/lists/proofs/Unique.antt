@@ -4,5 +4,5 @@ use mathlib.Core.List.{List}
 use Prim.Native.Nat.{ℕ}
 use lib.Seq.{sets}
 
-pub put_unique : (to numbers r q : List ℕ) (at : ℕ) → r ≡ sets to at numbers → q ≡ sets to at numbers → r ≡ q
+pub put_unique : {A : Type 0} (to numbers r q : List A) (at : ℕ) → r ≡ sets to at numbers → q ≡ sets to at numbers → r ≡ q
 put_unique to numbers r q at h g = h ∙ sym g

@@ -1,4 +1,6 @@
 -- Demand 3: from an accepted opening, and from any accepted reset, every run of detect and flush keeps each of its sentences. Assumes nothing.
+use Rattle.vad_segments.specs.declared.ActiveSegmentState.{ActiveSegmentState}
+use Rattle.std.specs.Prelude.{None, Option, Some}
 use mathlib.Core.Path.{◌≡◌, refl, sym, ap, ◌∙◌, subst}
 use mathlib.Core.Logic.{⊎_elim}
 use mathlib.Core.Bool.{Bool, true, false, not, true≢false}
@@ -19,15 +21,15 @@ use Rattle.vad_segments.specs.Setters.{fresh_track}
 use Rattle.vad_segments.specs.Judging.{count_of}
 use Rattle.vad_segments.specs.Positions.{undecided_of}
 use Rattle.vad_segments.specs.declared.Rules.{Rules}
-use Rattle.vad_segments.specs.declared.ActiveSegment.{ActiveSegment}
-use Rattle.vad_segments.specs.declared.ActiveSegment.TheVariants.{Closed, Open}
 use Rattle.vad_segments.specs.declared.Track.{Track}
 use Rattle.vad_row.proofs.Laws.{talk_append, in_order_sooner, in_order_append, between_ends}
 use Rattle.vad_segments.proofs.Counts.{ActiveCounted, Recent}
 use Rattle.vad_segments.proofs.Undecided.{undecided_trails}
 use Rattle.vad_state.specs.declared.VadDetector.{VadDetector}
 use Rattle.vad_call.specs.Calls.{refused_by, desk_after, joined_of, advanced_of}
-use Rattle.vad_detector.specs.Opening.{rules_of, fresh_of, open_of, Handed, restarted_of, reset_to, reset_of}
+use Rattle.vad_detector.specs.Opening.{rules_of, fresh_of, open_of, Handed, restarted_of, reset_to, reset_of, open_refusal}
+use Rattle.std.specs.Prelude.{is_some}
+use Rattle.refusals.specs.Refusals.{number_in}
 use Rattle.vad_detector.specs.Readings.{undecided_in, open_start}
 use Rattle.vad_detector.specs.Run.{Call, Detect, Flush, Reset, next, play}
 use Rattle.vad_detector.proofs.Running.{Running}
@@ -56,15 +58,15 @@ one_loud_lem zero (suc n) (false ∷ flags) l e = absurd (true≢false (sym e))
 one_loud_lem (suc k) (suc n) (false ∷ flags) l e = one_loud_lem k n flags (omega arith) e
 
 -- a segment is open only while a loud frame is recent
-lately : (hangover : ℕ) (flags : List Bool) (a : ActiveSegment) → ActiveCounted hangover a → Recent flags a → (open_start a).is_open ≡ true → one_loud (take (suc hangover) flags) ≡ true
+lately : (hangover : ℕ) (flags : List Bool) (a : Option ActiveSegmentState) → ActiveCounted hangover a → Recent flags a → is_some (open_start a) ≡ true → one_loud (take (suc hangover) flags) ≡ true
 unfolding open_start
-lately hangover flags Closed c h e = absurd (true≢false (sym e))
-lately hangover flags (Open s) c h e = one_loud_lem s.silence_run (suc hangover) flags (omega (arith, c.2)) h
+lately hangover flags None c h e = absurd (true≢false (sym e))
+lately hangover flags (Some s) c h e = one_loud_lem s.silence_run (suc hangover) flags (omega (arith, c.2)) h
 
-not_open : (a : ActiveSegment) → (open_start a).is_open ≡ false → a ≡ Closed
+not_open : (a : Option ActiveSegmentState) → is_some (open_start a) ≡ false → a ≡ None
 unfolding open_start
-not_open Closed e = refl
-not_open (Open s) e = absurd (true≢false e)
+not_open None e = refl
+not_open (Some s) e = absurd (true≢false e)
 
 -- ---- rows in order, the rows of each call after those before it
 log_order : (ks : List Turn) (d : VadDetector) → Running d → InOrder d.kept.desk.track.last_segment_end (rows_in (log_of d ks))
@@ -215,7 +217,7 @@ fresh_story r window d e running = record {
 }
 
 -- every sentence of demand 3, of every run from an accepted opening, whatever its calls
-pub demand_3 : (c : VadConfig) (window : List Float) (rise : Float) (ks : List Turn) → (open_of c window rise).refusal ≡ 0 → Handed c rise → Promised c (run_of (open_of c window rise).detector ks)
+pub demand_3 : (c : VadConfig) (window : List Float) (rise : Float) (ks : List Turn) → open_refusal c window rise ≡ 0 → Handed c rise → Promised c (run_of (open_of c window rise).detector ks)
 unfolding fresh_of rules_of
 demand_3 c window rise ks z f =
     let d = (open_of c window rise).detector in
@@ -243,8 +245,8 @@ play_settings [] d start = refl
 play_settings (k ∷ cs) d start = play_settings cs (next d k) start ∙ next_settings d k start
 
 -- from any accepted reset of a run, too: a fresh start with the settings of the opening and a new stream start
-pub demand_3_again : (c : VadConfig) (window : List Float) (rise : Float) (cs : List Call) (start : ℕ) (ks : List Turn) → (open_of c window rise).refusal ≡ 0 → Handed c rise
-    → (reset_of (play (open_of c window rise).detector cs) start).refusal ≡ 0 → Promised (restarted_of c start) (run_of (reset_of (play (open_of c window rise).detector cs) start).detector ks)
+pub demand_3_again : (c : VadConfig) (window : List Float) (rise : Float) (cs : List Call) (start : ℕ) (ks : List Turn) → open_refusal c window rise ≡ 0 → Handed c rise
+    → number_in (reset_of (play (open_of c window rise).detector cs) start).outcome ≡ 0 → Promised (restarted_of c start) (run_of (reset_of (play (open_of c window rise).detector cs) start).detector ks)
 unfolding reset_to fresh_of rules_of
 demand_3_again c window rise cs start ks z f a =
     let o = (open_of c window rise).detector in

@@ -5,7 +5,6 @@ use mathlib.Core.List.{List, [], map, reverse_aux}
 use Prim.Native.Nat.{ℕ, ◌+◌, ◌^◌, ◌≤◌}
 use native.Mathlib.Nat.{le_refl}
 use native.Mathlib.Omega.{arith}
-use borrow.Author.Tests.{eqb-true, eqb-false, ne_eqb}
 use lib.Dec.{eqb}
 use lib.ListN.{length}
 use lib.Ieee.{Float}
@@ -16,8 +15,6 @@ use Rattle.vad_row.specs.Rows.{talk_of}
 use Rattle.vad_segments.specs.Judging.{count_of}
 use Rattle.vad_classify.specs.Classify.{classified_of}
 use Rattle.vad_segments.specs.Positions.{undecided_of}
-use Rattle.vad_segments.specs.declared.ActiveSegment.{ActiveSegment}
-use Rattle.vad_segments.specs.declared.ActiveSegment.TheVariants.{Closed, Open}
 use Rattle.vad_segments.specs.declared.FrameMetrics.{FrameMetrics}
 use Rattle.vad_row.specs.declared.Row.{Row}
 use Rattle.vad_row.proofs.Laws.{Between, RowsFrom, between_wider}
@@ -30,6 +27,11 @@ use Rattle.vad_call.specs.Calls.{measured_of, carry_after, stream_after, holding
 use Rattle.vad_call.specs.declared.Detected.{Detected}
 use Rattle.vad_call.specs.Checks.{check_of}
 use Rattle.vad_detector.specs.Entries.{detect_of, flush_of}
+use Rattle.std.specs.Prelude.{Result, Ok, Err, ⊤, is_some}
+use Rattle.refusals.specs.Refusals.{number, number_in, if_passed}
+use Rattle.refusals.specs.declared.Refusal.{Refusal}
+use Rattle.refusals.specs.declared.Refusal.TheVariants as why
+use Rattle.refusals.proofs.First.{number_tells}
 use Rattle.vad_detector.specs.Readings.{read_of, undecided_in, undecided_read, rows_read, talk_read, open_start, segment_read}
 use Rattle.vad_detector.specs.Run.{number_of, Detect as Detects}
 use Rattle.vad_detector.proofs.Running.{Running, running_accepted, frames_lie, frames_from_lem, grid_carry, seeded_keeps, seeded_ordered, holding_says, ran_to, ran_running}
@@ -43,21 +45,15 @@ pub record Shown (d : VadDetector) (s : Seen) : Type 0 where
   pub undecided : s.undecided ≡ undecided_in d
   pub reported : s.reported ≡ d.kept.desk.track.rows_reported
   pub talk : s.talk ≡ d.kept.desk.track.talk_samples
-  pub segment : s.segment ≡ (open_start d.kept.desk.track.active_segment).is_open
+  pub segment : s.segment ≡ is_some (open_start d.kept.desk.track.active_segment)
   pub readings : Every (λ n. n ≡ 0) s.readings
-
-unrefused : (a : ActiveSegment) → (open_start a).refusal ≡ 0
-unfolding open_start
-unrefused Closed = refl
-unrefused (Open s) = refl
 
 -- a state of a run is sound, so it is read
 shown : (flush : Bool) (block : ℕ) (a : Detected) (rows : List Row) (louds : List Bool) → Running a.detector → Shown a.detector (seen_as flush block a rows louds)
 unfolding seen_as undecided_read rows_read talk_read segment_read read_of
 shown flush block a rows louds r =
     let h = running_sound a.detector r in
-    let read = unrefused a.detector.kept.desk.track.active_segment in
-    record { undecided = rw h; reported = rw h; talk = rw h; segment = rw h; readings = rw h (refl, (refl, (refl, (read, tt)))) }
+    record { undecided = rw h; reported = rw h; talk = rw h; segment = rw h; readings = rw h (refl, (refl, (refl, (refl, tt)))) }
 
 -- ---- what a call does to a state d, and leaves as e
 pub record Moves (d e : VadDetector) (s : Seen) : Type 0 where
@@ -109,15 +105,14 @@ idle d s r h rows due louds tally sound flush number = record {
 pub opened_moves : (d : VadDetector) → Running d → Moves d d (seen_opened d)
 unfolding seen_opened seen_as unless_refused
 opened_moves d r =
-    idle d (seen_opened d) r (shown false 0 (record { refusal = record { number = 0; carries = 0 }; detector = d; tally = no_tally }) [] [] r) refl refl refl refl refl refl (λ e. absurd (omega arith))
+    idle d (seen_opened d) r (shown false 0 (record { outcome = Ok no_tally; detector = d }) [] [] r) refl refl refl refl refl refl (λ e. absurd (omega arith))
 
 -- a refused call
-refused_moves : (d : VadDetector) (flush : Bool) (block number carries : ℕ) (rows : List Row) (louds : List Bool) → Running d → (number ≡ 0 → ⊥) → (number ≡ 19 → ⊥)
-    → Moves d d (seen_as flush block (refused_by number carries d) rows louds)
+refused_moves : (d : VadDetector) (flush : Bool) (block : ℕ) (by : Refusal) (rows : List Row) (louds : List Bool) → Running d → (number by ≡ 19 → ⊥) → Moves d d (seen_as flush block (refused_by by d) rows louds)
 unfolding seen_as refused_by unless_refused
-refused_moves d flush block number carries rows louds r some known =
-    let a = refused_by number carries d in
-    let e = ne_eqb number 0 some in
+refused_moves d flush block by rows louds r known =
+    let a = refused_by by d in
+    let e = number_tells {A = ⊤} (Err by) in
     idle d (seen_as flush block a rows louds) r (shown flush block a rows louds r) (rw e) (rw e) (rw e) refl (rw e) (rw e (never flush)) known
   where
     never : (b : Bool) → (b && false) ≡ false
@@ -219,26 +214,20 @@ ran_moves : (finish : Bool) (d : VadDetector) (xs : List Float) (room : ℕ) →
 unfolding ran_of concluded_of stream_after rows_of_call refused_by accepted_of
 ran_moves finish d xs room r h most =
     let rows = rows_of_call finish d xs in
-    either (Answers finish d xs) (too_many rows room) (refused_by 18 (length rows) d) (done_of finish d xs)
-    (refused_moves d finish (length xs) 18 (length rows) rows (louds_of_call finish d xs) r (λ e. absurd (omega arith)) (λ e. absurd (omega arith)))
+    either (Answers finish d xs) (too_many rows room) (refused_by (why.Rows (length rows)) d) (done_of finish d xs)
+    (refused_moves d finish (length xs) (why.Rows (length rows)) rows (louds_of_call finish d xs) r (λ e. absurd (omega arith)))
     (done_moves finish d xs r h most)
 
 detect_moves : (d : VadDetector) (xs : List Float) (room : ℕ) → Running d → Answers false d xs (detect_of d xs room)
 unfolding detect_of refused_by
-detect_moves d xs room r = go (eqb n 0) (eqb-true n 0) (eqb-false n 0) (unfold number_of detect_of in sound_taken d (Detects xs room) (running_sound d r))
+detect_moves d xs room r = go (check_of d xs) refl (unfold number_of detect_of in sound_taken d (Detects xs room) (running_sound d r))
   where
-    n : ℕ
-    n = (check_of d xs).number
+    then : Result ⊤ Refusal → Detected
+    then v = if_passed v (ran_of false d xs room) (λ by. refused_by by d)
 
-    ran : Detected
-    ran = ran_of false d xs room
-
-    stuck : Detected
-    stuck = refused_by n (check_of d xs).carries d
-
-    go : (b : Bool) → (b ≡ true → n ≡ 0) → (b ≡ false → n ≡ 0 → ⊥) → ((cond b ran stuck).refusal.number ≡ 19 → ⊥) → Answers false d xs (cond b ran stuck)
-    go true f g known = let c = check_clean d xs (f refl) in ran_moves false d xs room r c.samples c.room
-    go false f g known = refused_moves d false (length xs) n (check_of d xs).carries (rows_of_call false d xs) (louds_of_call false d xs) r (g refl) known
+    go : (v : Result ⊤ Refusal) → check_of d xs ≡ v → (number_in (then v).outcome ≡ 19 → ⊥) → Answers false d xs (then v)
+    go (Ok x) e known = let c = check_clean d xs e in ran_moves false d xs room r c.samples c.room
+    go (Err by) e known = refused_moves d false (length xs) by (rows_of_call false d xs) (louds_of_call false d xs) r known
 
 -- a call of a run, refused or not
 pub turn_moves : (d : VadDetector) (k : Turn) → Running d → Moves d (answer_of d k).detector (seen_of d k)

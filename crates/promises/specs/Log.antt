@@ -1,9 +1,11 @@
 -- What is seen of a run of calls: the answers of detect and flush, the rows that they write, and what is read after each of them.
-use Rattle.std.specs.Prelude.{Bool, true, false, cond, List, [], ◌∷◌, ℕ, ◌+◌, eqb, length, Float}
+use Rattle.std.specs.Prelude.{Bool, true, false, cond, List, [], ◌∷◌, ℕ, ◌+◌, eqb, length, Float, None, Ok, is_some}
+use Rattle.std.specs.Result.{result_unwrap_or}
+use Rattle.refusals.specs.Refusals.{number_in}
 use Rattle.vad_segments.specs.Judging.{louds_of}
 use Rattle.vad_row.specs.declared.Row.{Row}
 use Rattle.vad_state.specs.declared.VadDetector.{VadDetector}
-use Rattle.vad_call.specs.Calls.{measured_of, due_of, seeded_of, frames_due, rows_of_call, no_tally}
+use Rattle.vad_call.specs.Calls.{measured_of, due_of, seeded_of, frames_due, rows_of_call, no_tally, tally_in}
 use Rattle.vad_call.specs.declared.Tally.{Tally}
 use Rattle.vad_call.specs.declared.Detected.{Detected}
 use Rattle.vad_detector.specs.Entries.{detect_of, flush_of}
@@ -64,21 +66,21 @@ seen_as flush block a rows louds =
     record {
       flush = flush;
       block = block;
-      number = a.refusal.number;
-      rows = unless_refused a.refusal.number rows;
-      tally = a.tally;
-      undecided = (undecided_read a.detector).value;
-      reported = (rows_read a.detector).value;
-      talk = (talk_read a.detector).value;
-      segment = (segment_read a.detector).is_open;
+      number = number_in a.outcome;
+      rows = unless_refused (number_in a.outcome) rows;
+      tally = tally_in a.outcome;
+      undecided = result_unwrap_or (undecided_read a.detector) 0;
+      reported = result_unwrap_or (rows_read a.detector) 0;
+      talk = result_unwrap_or (talk_read a.detector) 0;
+      segment = is_some (result_unwrap_or (segment_read a.detector) None);
       readings =
-          (undecided_read a.detector).refusal
-          ∷ (rows_read a.detector).refusal
-          ∷ (talk_read a.detector).refusal
-          ∷ (segment_read a.detector).refusal
+          number_in (undecided_read a.detector)
+          ∷ number_in (rows_read a.detector)
+          ∷ number_in (talk_read a.detector)
+          ∷ number_in (segment_read a.detector)
           ∷ [];
-      louds = unless_refused a.refusal.number louds;
-      due = unless_refused a.refusal.number rows;
+      louds = unless_refused (number_in a.outcome) louds;
+      due = unless_refused (number_in a.outcome) rows;
     }
 
 unfoldable pub seen_of : VadDetector → Turn → Seen
@@ -92,7 +94,7 @@ log_of d (k ∷ ks) = seen_of d k ∷ log_of (answer_of d k).detector ks
 
 -- an opened detector, as a call that hands in nothing and answers nothing: its undecided position is given too
 unfoldable pub seen_opened : VadDetector → Seen
-seen_opened d = seen_as false 0 (record { refusal = record { number = 0; carries = 0 }; detector = d; tally = no_tally }) [] []
+seen_opened d = seen_as false 0 (record { outcome = Ok no_tally; detector = d }) [] []
 
 unfoldable pub run_of : VadDetector → List Turn → List Seen
 run_of d ks = seen_opened d ∷ log_of d ks

@@ -1,17 +1,17 @@
 -- Document 01's 'Small table to prove', as one list.
-use Rattle.std.specs.Prelude.{◌≡◌, false, true, List, [], ◌∷◌, ◌++◌, map, ℕ, negsuc, replicate, Float}
+use Rattle.std.specs.Prelude.{◌≡◌, false, true, List, [], ◌∷◌, ◌++◌, map, ℕ, negsuc, replicate, Float, Some}
 use Rattle.std.specs.Float.{fin, binary32}
 use Rattle.std.specs.Float.Ieee.{of_bits}
 use Rattle.float.specs.Numbers.{one32}
 use Rattle.float.specs.Fused.{fused_of}
 use Rattle.float.specs.Root.{root_of}
-use Rattle.float.specs.declared.Rounded.TheVariants.{Finite}
 use Rattle.score.specs.Score.{score_of}
 use Rattle.vad_config.specs.Lengths.{frame_length_of, hop_length_of, warmup_frames_of}
 use Rattle.vad_config.specs.declared.VadConfig.{VadConfig}
 use Rattle.vad_row.specs.Rows.{row_width, flat}
 use Rattle.vad_state.specs.State.{half32}
-use Rattle.vad_detector.specs.Opening.{open_of}
+use Rattle.refusals.specs.Refusals.{number_in}
+use Rattle.vad_detector.specs.Opening.{open_refusal, open_of}
 use Rattle.vad_runs.specs.Detector.{config_of, config, window, block_of, a, b, row_a, row_b}
 use Rattle.promises.specs.Log.{Turn, Detect, Flush, log_of}
 
@@ -38,15 +38,15 @@ abbrev pub Reports : ℕ → List ℕ → Type 0
 Reports release row =
     let opened = open_of (config release) window half32 in
     let log = log_of opened.detector calls in
-    (opened.refusal ≡ 0) × (map (λ s. s.number) log ≡ replicate 7 0) × (map (λ s. flat s.rows) log ≡ replicate 6 [] ++ (row ∷ []))
+    (number_in opened.outcome ≡ 0) × (map (λ s. s.number) log ≡ replicate 7 0) × (map (λ s. flat s.rows) log ≡ replicate 6 [] ++ (row ∷ []))
 
 abbrev pub Holds : Case → Type 0
-Holds (Fused a b c r) = fused_of a b c ≡ Finite r
-Holds (Root x r) = root_of x ≡ Finite r
+Holds (Fused a b c r) = fused_of a b c ≡ Some r
+Holds (Root x r) = root_of x ≡ Some r
 Holds (Frame ns rate n) = frame_length_of rate ns ≡ n
 Holds (Hop frame overlap n) = hop_length_of frame overlap ≡ n
 Holds (WarmUp hop rate n) = warmup_frames_of hop rate ≡ n
-Holds (Opening c n number) = (open_of c (replicate n one32) half32).refusal ≡ number
+Holds (Opening c n number) = open_refusal c (replicate n one32) half32 ≡ number
 Holds (Score ratio n) = score_of ratio ≡ n
 Holds (Run release row) = Reports release row
 

@@ -5,8 +5,6 @@
 ghost use Rattle.std.specs.Prelude.{◌≡◌};
 ghost use Rattle.ranges.specs.Ranges.{within, leading_of, all_within, clean_of, rate_in};
 
-use float::quick::both;
-
 // How much there can be at most: samples in a frame, frames held, samples in a block, samples received.
 pub const FRAME_MOST: usize = 2048;
 
@@ -19,24 +17,16 @@ pub const RECEIVED_MOST: u64 = 0x100_0000_0000;
 pub fn inside(low: f32, x: f32, high: f32) -> bool
     ensures { result ≡ within low x high }
 {
-    if low <= x {
-        return x <= high;
-    }
-    false
+    low <= x && x <= high
 }
 
 // How many stand before the first outside: all, where none is.
 pub fn leading(low: f32, xs: &[f32], high: f32) -> usize
     ensures { result ≡ leading_of low xs.now high }
 {
-    let mut i = 0;
-    while i < xs.len() {
-        if !inside(low, xs[i], high) {
-            break;
-        }
-        i += 1;
-    }
-    i
+    xs.iter()
+        .position(|x| !inside(low, *x, high))
+        .unwrap_or(xs.len())
 }
 
 // Every number is looked at, so that the processor can look at several at once.
@@ -44,10 +34,8 @@ pub fn all_inside(low: f32, xs: &[f32], high: f32) -> bool
     ensures { result ≡ all_within low xs.now high }
 {
     let mut all = true;
-    let mut k = 0;
-    while k < xs.len() {
-        all = both(all, inside(low, xs[k], high));
-        k += 1;
+    for x in xs {
+        all &= inside(low, *x, high);
     }
     all
 }
@@ -63,8 +51,9 @@ pub fn clean(samples: &[f32]) -> usize
 }
 
 // For the detector and the filter.
+#[tactic(auto, unfolding(crate::specs::Ranges::rate_in))]
 pub fn rate_allowed(sample_rate: u32) -> bool
     ensures { result ≡ rate_in sample_rate }
 {
-    8_000 <= sample_rate && sample_rate <= 48_000
+    (8_000..=48_000).contains(&sample_rate)
 }

@@ -1,16 +1,21 @@
 -- What callers may use of the score: where it lies by the powers that are reached, that it is at most 1,024, and that it is 0 below 1. Assumes nothing.
 use mathlib.Core.Path.{◌≡◌, refl, sym, ap, subst, ◌∙◌}
 use mathlib.Core.Logic.{inl, inr}
+use mathlib.Core.List.{List}
 use mathlib.Core.Bool.{Bool, true, false, ◌&&◌, ◌||◌, cond, true≢false}
-use Prim.Native.Nat.{ℕ, zero, suc, ◌*◌, ◌^◌, ◌≤◌, ◌<◌}
+use Prim.Native.Nat.{ℕ, zero, suc, ◌-◌, ◌*◌, ◌^◌, ◌≤◌, ◌<◌}
 use native.Mathlib.Nat.{le_trans, le_of_suc-le-suc, eq-or-lt_of_le, mul-le-mul_right, pow-le-pow_right, pow-lt-pow_left, one-mul}
 use native.Mathlib.Decide.{dec_lt}
 use native.Mathlib.Omega.{arith}
-use borrow.Author.Tests.{leb-true, le-leb, lt-leb, ltb-false, eqb-false}
+use borrow.Author.Tests.{leb-true, leb-false, le-leb, lt-leb, ltb-false, eqb-false}
 use lib.Dec.{T, leb, ltb, eqb, lit<}
 use lib.Ieee.{Float, nan, inf, fin, binary32, up, down, le, fits, of_bits, to_bits}
+use lib.ListN.{length, get_or}
+use Rattle.std.proofs.Common.{zero-le}
+use Rattle.std.specs.List.Sorted.{IsPartitionedBy, IsPartitionPoint}
+use Rattle.std.proofs.lemmas.List.Sorted.{IsPartitionedBy-leb, IsNonDecreasingBy-from_default}
 use Rattle.score.specs.Score.{reaches, largest, score_of, Threshold}
-use Rattle.score.proofs.Bits.{one, read_back, bits_from_one, pattern_le}
+use Rattle.score.proofs.Bits.{one, read_back, bits_from_one, pattern_le, reaches_up}
 
 -- ---- `largest`, for any test
 -- what passes is not above it
@@ -90,6 +95,31 @@ score_below r h = let l = score_lt r 1 (lit< tt) (misses_higher r 0 1 (omega ari
 -- two answers that meet the contract of `score` are equal
 pub score_unique : (r : Float) (a b : ℕ) → a ≡ score_of r → b ≡ score_of r → a ≡ b
 score_unique r a b p q = p ∙ sym q
+
+-- ---- the search
+thresholds_rise : (i j a b : ℕ) → i ≤ j → Threshold i a → Threshold j b → a ≤ b
+thresholds_rise i j a b h s t = elim (dec_lt b a) [ yes l ↦ absurd (true≢false (sym (reaches_lower (of_bits binary32 b) i j h t.reached) ∙ s.least b l)) | no g ↦ omega arith ]
+
+-- of thresholds, those up to a pattern stand before those above it
+pub thresholds_parted : (xs : List ℕ) (b : ℕ) → length xs ≡ 1025 → ((k : ℕ) → k ≤ 1024 → Threshold k (get_or xs k 0)) → IsPartitionedBy (λ y. leb y b) xs
+thresholds_parted xs b n t =
+    IsPartitionedBy-leb (λ y. y) xs b
+    (IsNonDecreasingBy-from_default (λ y. y) xs 0 (λ i j h l. thresholds_rise i j (get_or xs i 0) (get_or xs j 0) h (t i (omega arith)) (t j (omega arith))))
+
+-- the score stands before the first threshold above the pattern
+pub parted_score : (xs : List ℕ) (b i : ℕ) → ((k : ℕ) → k ≤ 1024 → Threshold k (get_or xs k 0)) → b ≤ 0x7f80_0000 → length xs ≡ 1025 → i ≤ length xs
+    → IsPartitionPoint (λ y. leb y b ≡ true) (λ y. leb y b ≡ false) xs i → i - 1 ≡ score_of (of_bits binary32 b)
+parted_score xs b i t h n m p =
+    let v = of_bits binary32 b in
+    let top = score_le v in
+    let over : (k : ℕ) → i ≤ k → k ≤ 1024 → 0 < k → score_of v < k = λ k l u z. score_lt v k z ((t k u).least b (leb-false _ _ (p.1 k 0 l (omega arith)))) in
+    let under : (k : ℕ) → k < i → k ≤ 1024 → k ≤ score_of v = λ k l u. score_ge v k u (reaches_up _ _ _ (leb-true _ _ (p.0 k 0 zero-le l)) h (t k u).reached) in
+    elim (dec_lt 0 i) [
+      | yes l ↦
+          let low = under (i - 1) (omega arith) (omega arith) in
+          elim (dec_lt i 1025) [ yes u ↦ (let high = over i (omega arith) (omega arith) l in omega arith) | no u ↦ omega arith ]
+      | no g ↦ let high = over 1 (omega arith) (omega arith) (omega arith) in omega arith
+    ]
 
 -- ---- a threshold among the values
 reaches_from_one : (v : Float) (k : ℕ) → reaches v k ≡ true → le one v ≡ true

@@ -10,24 +10,14 @@ ghost use Rattle.std.specs.Float.{binary32};
 ghost use Rattle.std.specs.Float.Ieee.{of_bits};
 ghost use Rattle.score.specs.Score.{score_of};
 
-// The largest k whose threshold is at most `bits`, the pattern of a float from +0 to plus infinity; 0 where there is none. The width hi − lo
-// starts at 1,025 and each comparison halves it, rounded up: at most 11 of them.
+// The largest k whose threshold is at most `bits`, the pattern of a float from +0 to plus infinity; 0 where there is none.
 fn search(bits: u32) -> usize
     requires { bits ≤ 0x7f80_0000 }
     ensures { result ≡ score_of (of_bits binary32 bits) }
 {
-    let thresholds = thresholds::table();
-    let mut lo = 0;
-    let mut hi = 1025;
-    while 1 < hi - lo {
-        let mid = lo + (hi - lo) / 2;
-        if thresholds[mid] <= bits {
-            lo = mid;
-        } else {
-            hi = mid;
-        }
-    }
-    lo
+    thresholds::table()
+        .partition_point(|threshold| *threshold <= bits)
+        .saturating_sub(1)
 }
 
 // The score of `ratio`, from 0 to 1,024. NaN fails the comparison, and so scores 0.

@@ -1,9 +1,9 @@
 // Made by tools/score_table.py.
-ghost use Rattle.std.specs.Prelude.{ℕ, ◌≤◌, get_or};
+ghost use Rattle.std.specs.Prelude.{◌≡◌, ℕ, ◌≤◌, get_or, length};
 ghost use Rattle.score.specs.Score.{Threshold};
 
 // Entry k: the bits of the least f32 above 0 whose 1,024th power reaches 10^k.
-const THRESHOLDS: [u32; 1025] = [
+static THRESHOLDS: [u32; 1025] = [
     0x3f80_0000,
     0x3f80_49c5,
     0x3f80_93b3,
@@ -1031,9 +1031,9 @@ const THRESHOLDS: [u32; 1025] = [
     0x4120_0000,
 ];
 
-// The only function that names the table: whoever reads several entries asks once, since a constant is written out where it stands.
-pub(crate) fn table() -> [u32; 1025]
-    ensures { (k : ℕ) → k ≤ 1024 → Threshold k (get_or result k 0) }
+pub(crate) fn table() -> &'static [u32]
+    ensures len { length result.now ≡ 1025 }
+    ensures entries { (k : ℕ) → k ≤ 1024 → Threshold k (get_or result.now k 0) }
 {
-    THRESHOLDS
+    &THRESHOLDS
 }

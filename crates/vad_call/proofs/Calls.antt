@@ -4,7 +4,7 @@ use mathlib.Core.Bool.{Bool, true, false, not, ◌&&◌, cond, true≢false}
 use mathlib.Core.List.{List, [], ◌∷◌, ◌++◌}
 use Prim.Native.Nat.{ℕ, ◌+◌, ◌-◌, ◌≤◌, ◌<◌}
 use native.Mathlib.Omega.{arith}
-use borrow.Author.Tests.{lt-ltb, le-ltb, ltb-true, eq-eqb, ne_eqb}
+use borrow.Author.Tests.{lt-ltb, le-ltb, ltb-true}
 use lib.Dec.{ltb, lit≤}
 use lib.ListN.{length, take, drop, length-append, length-take, length-drop}
 use lib.Seq.{sets, length-take-le}
@@ -26,8 +26,11 @@ use Rattle.vad_classify.specs.Classify.{classified_of}
 use Rattle.vad_classify.specs.declared.Classified.{Classified}
 use Rattle.ranges.specs.Sizes.{frame_most, warmup_most, block_most}
 use Rattle.vad_state.specs.State.{window_of, carried_of, held_of}
-use Rattle.vad_call.specs.Calls.{values_most, energies_most, values_of, waiting_of, measured_from, measured_of, consumed_from, carry_after, stream_after, holding_with, holding_of, held_after, due_of, seeded_of, grid_start, frames_due, verdict_of, rows_due, refused_by, accepted_of, too_many, concluded_of, reported_in, ran_of, rows_of_call, written_of, tally_of, desk_after, advanced_of, joined_of, settled_of}
-use Rattle.vad_call.specs.Inside.{refused_hearing, accepted_hearing, hearing_of}
+use Rattle.vad_call.specs.Calls.{values_most, energies_most, values_of, waiting_of, measured_from, measured_of, consumed_from, carry_after, stream_after, holding_with, holding_of, held_after, due_of, seeded_of, grid_start, frames_due, verdict_of, rows_due, refused_by, accepted_of, too_many, concluded_of, reported_in, ran_of, rows_of_call, written_of, tally_of, desk_after, advanced_of, joined_of, taken_of, settled_of, PartsFit}
+use Rattle.vad_call.specs.Inside.{accepted_hearing, hearing_of}
+use Rattle.std.specs.Prelude.{Result, Ok, Err, IfOk}
+use Rattle.refusals.specs.declared.Refusal.{Refusal}
+use Rattle.refusals.specs.declared.Refusal.TheVariants as why
 use Rattle.vad_state.specs.declared.Stream.{Stream}
 use Rattle.vad_state.specs.declared.Kept.{Kept}
 use Rattle.vad_state.specs.declared.VadDetector.{VadDetector}
@@ -294,7 +297,7 @@ held_few finish d es holds h s = go d.kept.desk.warming finish holds h
 -- what was judged, concluded
 module _ (finish : Bool) (d : VadDetector) (es : List Float) (p : Stream) (carry : List Float) (room : ℕ) (refused : Bool) (t : refused ≡ too_many (rows_due finish d.kept p.processed_samples (due_of finish d.kept es)) room)
     (n : ℕ) (k : n ≡ length (rows_due finish d.kept p.processed_samples (due_of finish d.kept es))) where
-  pub refused_concluded : refused ≡ true → (r : Detected) → r ≡ refused_by 18 n d → r ≡ concluded_of finish d p carry es room
+  pub refused_concluded : refused ≡ true → (r : Detected) → r ≡ refused_by (why.Rows n) d → r ≡ concluded_of finish d p carry es room
   unfolding concluded_of
   refused_concluded on r a = a ∙ rw (sym t ∙ on, k)
 
@@ -314,21 +317,20 @@ held_part true frames energies = sym (from_start frames energies)
 held_part false frames energies = refl
 
 module _ (d : VadDetector) (p : Stream) (frames : ℕ) (o : Outcome) (consumed : ℕ) (values energies : List Float) where
-  refused_settled : settled_of (refused_hearing d.kept o.needed) values energies d ≡ refused_by 18 o.needed d
-  unfolding settled_of refused_hearing refused_by
+  refused_settled : settled_of (Err (why.Rows o.needed)) values energies d ≡ refused_by (why.Rows o.needed) d
+  unfolding settled_of
   refused_settled = refl
 
   accepted_settled : (held : List Float) → cond o.holds frames 0 ≡ length held → take (cond o.holds frames 0) energies ≡ held
-      → settled_of (accepted_hearing d.kept p frames o consumed) values energies d ≡ accepted_of d p (take p.carry_len (drop consumed values)) o.holds held o.classified o.needed
-  unfolding settled_of accepted_hearing accepted_of advanced_of desk_after
+      → settled_of (Ok (accepted_hearing d.kept p frames o consumed)) values energies d ≡ accepted_of d p (take p.carry_len (drop consumed values)) o.holds held o.classified o.needed
+  unfolding settled_of taken_of accepted_hearing accepted_of advanced_of desk_after
   accepted_settled held b c = ap (λ (xs : List Float). made (cond o.holds frames 0) xs) c ∙ ap (λ (n : ℕ). made n held) b
     where
       made : ℕ → List Float → Detected
       made n xs =
           record {
-            refusal = record { number = 0; carries = 0 };
+            outcome = Ok (tally_of o.classified o.needed);
             detector = joined_of d (record { rules = d.kept.rules; stream = p; desk = record { warming = o.holds; held = n; track = o.classified.track } }) (take p.carry_len (drop consumed values)) xs;
-            tally = tally_of o.classified o.needed;
           }
 
 -- what `concluded` answers, settled
@@ -348,51 +350,36 @@ module _ (finish : Bool) (d : VadDetector) (p : Stream) (frames : ℕ) (consumed
       carry : List Float
       carry = take p.carry_len (drop consumed values)
 
-      go : (b : Bool) → o.refused ≡ b → settled_of (cond b (refused_hearing d.kept o.needed) (accepted_hearing d.kept p frames o consumed)) values energies d ≡ concluded_of finish d p carry es room
-      go true on = refused_concluded finish d es p carry room o.refused t o.needed n on (settled_of (refused_hearing d.kept o.needed) values energies d) (refused_settled d p frames o consumed values energies)
+      go : (b : Bool) → o.refused ≡ b → settled_of (cond b (Err (why.Rows o.needed)) (Ok (accepted_hearing d.kept p frames o consumed))) values energies d ≡ concluded_of finish d p carry es room
+      go true on = refused_concluded finish d es p carry room o.refused t o.needed n on (settled_of (Err (why.Rows o.needed)) values energies d) (refused_settled d p frames o consumed values energies)
       go false off =
-          accepted_concluded finish d es p carry room o.refused t o.needed n off o.holds h (cond o.holds es []) refl o.classified v (settled_of (accepted_hearing d.kept p frames o consumed) values energies d)
+          accepted_concluded finish d es p carry room o.refused t o.needed n off o.holds h (cond o.holds es []) refl o.classified v (settled_of (Ok (accepted_hearing d.kept p frames o consumed)) values energies d)
           (accepted_settled d p frames o consumed values energies (cond o.holds es []) (held_length o.holds frames es many) (held_part o.holds frames energies))
 
   -- where the new carry and the energies held stand
-  heard_fits : Sound d → consumed + p.carry_len ≤ values_most → p.carry_len ≤ frame_most
-      → ((hearing_of d.kept p frames o consumed).refusal.number ≡ 0 → ((hearing_of d.kept p frames o consumed).consumed + (hearing_of d.kept p frames o consumed).kept.stream.carry_len ≤ values_most) × ((hearing_of d.kept p frames o consumed).kept.stream.carry_len ≤ frame_most) × ((hearing_of d.kept p frames o consumed).kept.desk.held ≤ warmup_most))
-  unfolding hearing_of refused_hearing accepted_hearing
+  heard_fits : Sound d → consumed + p.carry_len ≤ values_most → p.carry_len ≤ frame_most → IfOk (hearing_of d.kept p frames o consumed) PartsFit
+  unfolding hearing_of accepted_hearing
   heard_fits s most short = go o.refused
     where
-      heard : Bool → Heard
-      heard b = cond b (refused_hearing d.kept o.needed) (accepted_hearing d.kept p frames o consumed)
-
-      go : (b : Bool) → (heard b).refusal.number ≡ 0 → ((heard b).consumed + (heard b).kept.stream.carry_len ≤ values_most) × ((heard b).kept.stream.carry_len ≤ frame_most) × ((heard b).kept.desk.held ≤ warmup_most)
-      go true z = absurd (omega arith)
-      go false z =
+      go : (b : Bool) → IfOk (cond b (Err (why.Rows o.needed)) (Ok (accepted_hearing d.kept p frames o consumed))) PartsFit
+      go true = tt
+      go false =
           let few = held_few finish d (take (frames - 0) energies) o.holds h s in
           let held = held_length o.holds frames (take (frames - 0) energies) many in
           (most, short, omega arith)
 
 -- the numbers after the call
-module _ (d : VadDetector) (p : Stream) (frames : ℕ) (o : Outcome) (consumed : ℕ) (values energies : List Float) where
-  heard_kept : (hearing_of d.kept p frames o consumed).kept ≡ (settled_of (hearing_of d.kept p frames o consumed) values energies d).detector.kept
-  unfolding hearing_of refused_hearing accepted_hearing settled_of joined_of
+module _ (d : VadDetector) (p : Stream) (frames : ℕ) (o : Outcome) (consumed : ℕ) (values energies : List Float) (e : p.carry_start ≡ d.kept.stream.carry_start + consumed) where
+  heard_kept : IfOk (hearing_of d.kept p frames o consumed) (λ h. (h.kept ≡ (settled_of (hearing_of d.kept p frames o consumed) values energies d).detector.kept) × (h.kept.stream.carry_start ≡ d.kept.stream.carry_start + h.consumed))
+  unfolding hearing_of accepted_hearing settled_of taken_of joined_of
   heard_kept = go o.refused
     where
-      heard : Bool → Heard
-      heard b = cond b (refused_hearing d.kept o.needed) (accepted_hearing d.kept p frames o consumed)
+      heard : Bool → Result Heard Refusal
+      heard b = cond b (Err (why.Rows o.needed)) (Ok (accepted_hearing d.kept p frames o consumed))
 
-      go : (b : Bool) → (heard b).kept ≡ (settled_of (heard b) values energies d).detector.kept
-      go true = refl
-      go false = refl
-
-  heard_start : p.carry_start ≡ d.kept.stream.carry_start + consumed → (hearing_of d.kept p frames o consumed).kept.stream.carry_start ≡ d.kept.stream.carry_start + (hearing_of d.kept p frames o consumed).consumed
-  unfolding hearing_of refused_hearing accepted_hearing
-  heard_start e = go o.refused
-    where
-      heard : Bool → Heard
-      heard b = cond b (refused_hearing d.kept o.needed) (accepted_hearing d.kept p frames o consumed)
-
-      go : (b : Bool) → (heard b).kept.stream.carry_start ≡ d.kept.stream.carry_start + (heard b).consumed
-      go true = omega arith
-      go false = e
+      go : (b : Bool) → IfOk (heard b) (λ h. (h.kept ≡ (settled_of (heard b) values energies d).detector.kept) × (h.kept.stream.carry_start ≡ d.kept.stream.carry_start + h.consumed))
+      go true = tt
+      go false = (refl, e)
 
 -- ---- run
 -- the carry and the block fit the array of values
@@ -501,7 +488,7 @@ module _ (finish : Bool) (d : VadDetector) (s : Sound d) (xs : List Float) (most
         (heard_concluded finish d far f.frames f.consumed values energies (length out) o refused n h k (frames_count finish d s xs most wide long blank values b v f.consumed c to energies t e f.frames g)) refl
 
     -- all that the contract says
-    pub heard_is : (r : Heard) (p : Stream) → r ≡ hearing_of d.kept p f.frames o f.consumed
+    pub heard_is : (r : Result Heard Refusal) (p : Stream) → r ≡ hearing_of d.kept p f.frames o f.consumed
         → p ≡ record {
           carry_len = d.kept.stream.carry_len + length xs - f.consumed;
           carry_start = d.kept.stream.carry_start + f.consumed;
@@ -509,9 +496,8 @@ module _ (finish : Bool) (d : VadDetector) (s : Sound d) (xs : List Float) (most
           pre_emphasis_prev = last;
         }
         → (ran_of finish d xs (length out) ≡ settled_of r values energies d)
-        × (((r.kept ≡ (ran_of finish d xs (length out)).detector.kept) × (r.kept.stream.carry_start ≡ d.kept.stream.carry_start + r.consumed))
-        × ((r.refusal.number ≡ 0 → (r.consumed + r.kept.stream.carry_len ≤ values_most) × (r.kept.stream.carry_len ≤ frame_most) × (r.kept.desk.held ≤ warmup_most))
-        × (rows ≡ written_of finish d xs out)))
+        × (IfOk r (λ h. (h.kept ≡ (ran_of finish d xs (length out)).detector.kept) × (h.kept.stream.carry_start ≡ d.kept.stream.carry_start + h.consumed))
+        × (IfOk r PartsFit × (rows ≡ written_of finish d xs out)))
     unfolding far
     heard_is r p is at =
         let few = total_few d s (length xs) most in
@@ -521,10 +507,7 @@ module _ (finish : Bool) (d : VadDetector) (s : Sound d) (xs : List Float) (most
         rw (is, at) (
           sym ran_heard,
           (
-            (
-              heard_kept d far f.frames o f.consumed values energies ∙ ap (λ (x : Detected). x.detector.kept) ran_heard,
-              heard_start d far f.frames o f.consumed values energies refl,
-            ),
+            rw ran_heard at (heard_kept d far f.frames o f.consumed values energies refl),
             (
               heard_fits finish d far f.frames f.consumed values energies (length out) o refused n h k (frames_count finish d s xs most wide long blank values b v f.consumed c to energies t e f.frames g) s (omega arith) (omega arith),
               written_is finish d s xs most wide long blank values b v f.consumed c to energies t e f.frames g out rows written,
@@ -532,16 +515,21 @@ module _ (finish : Bool) (d : VadDetector) (s : Sound d) (xs : List Float) (most
           ),
         )
 
--- ---- settled and run
-module _ (h : Heard) (values energies : List Float) (d : VadDetector) where
-  pub settled_refused : 1 ≤ h.refusal.number → record { refusal = h.refusal; detector = d; tally = h.tally } ≡ settled_of h values energies d
-  unfolding settled_of
-  settled_refused l = rw (ne_eqb h.refusal.number 0 (λ z. omega arith))
+-- ---- taken
+pub settled_refused : (r : Refusal) (values energies : List Float) (d : VadDetector) → record { outcome = Err r; detector = d } ≡ settled_of (Err r) values energies d
+unfolding settled_of refused_by
+settled_refused r values energies d = refl
 
+module _ (h : Heard) (values energies : List Float) (d : VadDetector) where
   -- the parts as they are lent
-  pub settled_accepted : h.refusal.number ≡ 0 → (after : VadDetector) → after ≡ joined_of d h.kept (take (h.consumed + h.kept.stream.carry_len - h.consumed) (drop h.consumed values)) (take (h.kept.desk.held - 0) energies)
-      → record { refusal = h.refusal; detector = after; tally = h.tally } ≡ settled_of h values energies d
-  unfolding settled_of
-  settled_accepted z after e =
+  pub taken_lent : (after : VadDetector) → after ≡ joined_of d h.kept (take (h.consumed + h.kept.stream.carry_len - h.consumed) (drop h.consumed values)) (take (h.kept.desk.held - 0) energies)
+      → record { outcome = Ok h.tally; detector = after } ≡ taken_of h values energies d
+  unfolding taken_of
+  taken_lent after e =
       let n : h.consumed + h.kept.stream.carry_len - h.consumed ≡ h.kept.stream.carry_len = omega arith in
-      rw (eq-eqb h.refusal.number 0 z, e, n, from_start h.kept.desk.held energies)
+      rw (e, n, from_start h.kept.desk.held energies)
+
+  pub settled_accepted : (after : VadDetector) → after ≡ joined_of d h.kept (take (h.consumed + h.kept.stream.carry_len - h.consumed) (drop h.consumed values)) (take (h.kept.desk.held - 0) energies)
+      → record { outcome = Ok h.tally; detector = after } ≡ settled_of (Ok h) values energies d
+  unfolding settled_of
+  settled_accepted = taken_lent

@@ -14,8 +14,11 @@ use Rattle.vad_frames.specs.declared.Framed.{Framed}
 use Rattle.vad_classify.specs.declared.Classified.{Classified}
 use Rattle.vad_state.specs.declared.Kept.{Kept}
 use Rattle.vad_state.specs.declared.VadDetector.{VadDetector}
-use Rattle.vad_call.specs.Calls.{holding_with, due_of, verdict_of, rows_due, refused_by, too_many, reported_in, ran_of, written_of, settled_of}
+use Rattle.vad_call.specs.Calls.{holding_with, due_of, verdict_of, rows_due, refused_by, too_many, reported_in, ran_of, written_of, taken_of, settled_of}
 use Rattle.vad_call.specs.declared.Outcome.{Outcome}
+use Rattle.std.specs.Prelude.{Result, Ok, Err, IfOk}
+use Rattle.std.specs.Result.{result_unwrap_or, result_and}
+use Rattle.refusals.proofs.First.{ok_or_err}
 use Rattle.refusals.specs.declared.Refusal.{Refusal}
 use Rattle.vad_call.specs.declared.Tally.{Tally}
 use Rattle.vad_call.specs.declared.Detected.{Detected}
@@ -67,8 +70,8 @@ module _ (finish : Bool) (k : Kept) (received : ℕ) (es : List Float) where
   reported_unique out r q = only
 
 -- ---- the call
-pub refused_unique : (number carries : ℕ) (d : VadDetector) (r q : Detected) → r ≡ refused_by number carries d → q ≡ refused_by number carries d → r ≡ q
-refused_unique number carries d r q = only
+pub refused_unique : (by : Refusal) (d : VadDetector) (r q : Detected) → r ≡ refused_by by d → q ≡ refused_by by d → r ≡ q
+refused_unique by d r q = only
 
 pub run_unique : (finish : Bool) (d : VadDetector) (xs : List Float) (room : ℕ) (r q : Detected) → r ≡ ran_of finish d xs room → q ≡ ran_of finish d xs room → r ≡ q
 run_unique finish d xs room r q = only
@@ -76,30 +79,35 @@ run_unique finish d xs room r q = only
 pub rows_unique : (finish : Bool) (d : VadDetector) (xs : List Float) (out r q : List ℕ) → r ≡ written_of finish d xs out → q ≡ written_of finish d xs out → r ≡ q
 rows_unique finish d xs out r q = only
 
-heard_same : (r q : Heard) → r.refusal ≡ q.refusal → r.consumed ≡ q.consumed → r.kept ≡ q.kept → r.tally ≡ q.tally → r ≡ q
-heard_same r q a b c e =
-    ap {B = Heard} (λ (x : Refusal). record { refusal = x; consumed = r.consumed; kept = r.kept; tally = r.tally }) a
-    ∙ ap {B = Heard} (λ (x : ℕ). record { refusal = q.refusal; consumed = x; kept = r.kept; tally = r.tally }) b
-    ∙ ap {B = Heard} (λ (x : Kept). record { refusal = q.refusal; consumed = q.consumed; kept = x; tally = r.tally }) c
-    ∙ ap {B = Heard} (λ (x : Tally). record { refusal = q.refusal; consumed = q.consumed; kept = q.kept; tally = x }) e
+heard_same : (r q : Heard) → r.consumed ≡ q.consumed → r.kept ≡ q.kept → r.tally ≡ q.tally → r ≡ q
+heard_same r q a b c =
+    ap {B = Heard} (λ (x : ℕ). record { consumed = x; kept = r.kept; tally = r.tally }) a
+    ∙ ap {B = Heard} (λ (x : Kept). record { consumed = q.consumed; kept = x; tally = r.tally }) b
+    ∙ ap {B = Heard} (λ (x : Tally). record { consumed = q.consumed; kept = q.kept; tally = x }) c
+
+abbrev tally_or : Tally → Detected → Tally
+tally_or t p = result_unwrap_or p.outcome t
 
 module _ (finish : Bool) (d : VadDetector) (xs : List Float) (room : ℕ) where
   -- `hear`'s contract, whose d is `state_of kept ..`, without its bounds; its rows are `run`'s
-  abbrev pub Hears : List Float → List Float → Heard → Type 0
+  abbrev pub Hears : List Float → List Float → Result Heard Refusal → Type 0
   Hears values energies r =
-      (ran_of finish d xs room ≡ settled_of r values energies d) × (r.kept ≡ (ran_of finish d xs room).detector.kept) × (r.kept.stream.carry_start ≡ d.kept.stream.carry_start + r.consumed)
+      (ran_of finish d xs room ≡ settled_of r values energies d) × IfOk r (λ h. (h.kept ≡ (ran_of finish d xs room).detector.kept) × (h.kept.stream.carry_start ≡ d.kept.stream.carry_start + h.consumed))
 
   -- whatever else the slices hold
-  pub hear_unique : (vs es : List Float) (r : Heard) (ws fs : List Float) (q : Heard) → Hears vs es r → Hears ws fs q → r ≡ q
-  unfolding settled_of
-  hear_unique vs es r ws fs q a b =
+  pub hear_unique : (vs es : List Float) (r : Result Heard Refusal) (ws fs : List Float) (q : Result Heard Refusal) → Hears vs es r → Hears ws fs q → r ≡ q
+  unfolding settled_of taken_of refused_by
+  hear_unique vs es (Ok r) ws fs (Ok q) a b =
       let both = sym a.0 ∙ b.0 in
-      let kept = only a.1 b.1 in
+      let kept = only a.1.0 b.1.0 in
       let start = ap (λ (k : Kept). k.stream.carry_start) kept in
-      let first = a.2 in
-      let second = b.2 in
-      heard_same r q (ap (λ (x : Detected). x.refusal) both) (omega arith) kept (ap (λ (x : Detected). x.tally) both)
+      let first = a.1.1 in
+      let second = b.1.1 in
+      ap (λ (h : Heard). Ok h) (heard_same r q (omega arith) kept (ap (tally_or r.tally) both))
+  hear_unique vs es (Ok r) ws fs (Err q) a b = absurd (ok_or_err (ap (λ (x : Detected). x.outcome) (sym a.0 ∙ b.0)))
+  hear_unique vs es (Err r) ws fs (Ok q) a b = absurd (ok_or_err (ap (λ (x : Detected). x.outcome) (sym b.0 ∙ a.0)))
+  hear_unique vs es (Err r) ws fs (Err q) a b = ap (λ (x : Detected). result_and {U = Heard} x.outcome (Err r)) (sym a.0 ∙ b.0)
 
   -- the new carry and the energies held too
-  pub settled_unique : (vs es : List Float) (r : Heard) (ws fs : List Float) (q : Heard) → Hears vs es r → Hears ws fs q → settled_of r vs es d ≡ settled_of q ws fs d
+  pub settled_unique : (vs es : List Float) (r : Result Heard Refusal) (ws fs : List Float) (q : Result Heard Refusal) → Hears vs es r → Hears ws fs q → settled_of r vs es d ≡ settled_of q ws fs d
   settled_unique vs es r ws fs q a b = sym a.0 ∙ b.0

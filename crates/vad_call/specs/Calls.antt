@@ -1,5 +1,5 @@
 -- One call, as detect and flush share it: what it measures, holds, judges and reports, and the state that it leaves.
-use Rattle.std.specs.Prelude.{Bool, ◌&&◌, cond, List, [], ◌++◌, ℕ, ◌+◌, ltb, eqb, length, take, drop, Float}
+use Rattle.std.specs.Prelude.{Bool, ◌&&◌, cond, List, [], ◌++◌, ℕ, ◌+◌, ◌≤◌, ltb, length, take, drop, Float, Result, Ok, Err}
 use Rattle.std.proofs.lemmas.List.Edits.{sets}
 use Rattle.float.specs.Numbers.{zero32}
 use Rattle.vad_frames.specs.Emphasis.{coefficient_of, emphasized, last_of}
@@ -20,6 +20,8 @@ use Rattle.vad_state.specs.declared.Stream.{Stream}
 use Rattle.vad_state.specs.declared.Desk.{Desk}
 use Rattle.vad_state.specs.declared.Kept.{Kept}
 use Rattle.vad_state.specs.declared.VadDetector.{VadDetector}
+use Rattle.refusals.specs.declared.Refusal.{Refusal}
+use Rattle.refusals.specs.declared.Refusal.TheVariants as why
 use Rattle.vad_call.specs.declared.Tally.{Tally}
 use Rattle.vad_call.specs.declared.Detected.{Detected}
 use Rattle.vad_call.specs.declared.Heard.{Heard}
@@ -119,17 +121,18 @@ tally_of c rows = record { frames = c.frames; loud = c.loud; quiet = c.quiet; no
 unfoldable pub no_tally : Tally
 no_tally = record { frames = 0; loud = 0; quiet = 0; noise_floor = zero32; rows = 0 }
 
+-- what any call counts
+abbrev pub tally_in : Result Tally Refusal → Tally
+tally_in (Ok t) = t
+tally_in (Err r) = no_tally
+
 -- 'A refused call returns the state it was given'
-unfoldable pub refused_by : ℕ → ℕ → VadDetector → Detected
-refused_by number carries d = record { refusal = record { number = number; carries = carries }; detector = d; tally = no_tally }
+unfoldable pub refused_by : Refusal → VadDetector → Detected
+refused_by r d = record { outcome = Err r; detector = d }
 
 unfoldable pub accepted_of : VadDetector → Stream → List Float → Bool → List Float → Classified → ℕ → Detected
 accepted_of d s carry holding held c rows =
-    record {
-      refusal = record { number = 0; carries = 0 };
-      detector = advanced_of d s carry (desk_after holding held c.track) held;
-      tally = tally_of c rows;
-    }
+    record { outcome = Ok (tally_of c rows); detector = advanced_of d s carry (desk_after holding held c.track) held }
 
 -- 18: 'this call reports more rows than fit; carries the number needed'
 unfoldable pub too_many : List Row → ℕ → Bool
@@ -140,7 +143,7 @@ concluded_of finish d s carry es room =
     let k = d.kept in
     let due = due_of finish k es in
     let rows = rows_due finish k s.processed_samples due in
-    cond (too_many rows room) (refused_by 18 (length rows) d)
+    cond (too_many rows room) (refused_by (why.Rows (length rows)) d)
     (accepted_of d s carry (holding_of finish k es) (held_after finish k es) (verdict_of finish k s.processed_samples due) (length rows))
 
 -- 'Rows fill the lent slice from its start .. and numbers past the rows written stay.'
@@ -160,11 +163,20 @@ written_of finish d xs out = reported_in (rows_of_call finish d xs) out
 -- ---- the same call by a state's numbers and its arrays as they are lent
 
 -- the answer, from what was heard and the slices that it was heard in
-unfoldable pub settled_of : Heard → List Float → List Float → VadDetector → Detected
-settled_of h values energies d =
+unfoldable pub taken_of : Heard → List Float → List Float → VadDetector → Detected
+taken_of h values energies d =
     let k = h.kept in
-    record {
-      refusal = h.refusal;
-      detector = cond (eqb h.refusal.number 0) (joined_of d k (take k.stream.carry_len (drop h.consumed values)) (take k.desk.held energies)) d;
-      tally = h.tally;
-    }
+    record { outcome = Ok h.tally; detector = joined_of d k (take k.stream.carry_len (drop h.consumed values)) (take k.desk.held energies) }
+
+unfoldable pub settled_of : Result Heard Refusal → List Float → List Float → VadDetector → Detected
+settled_of (Ok h) values energies d = taken_of h values energies d
+settled_of (Err r) values energies d = refused_by r d
+
+-- what was heard, as it is answered
+abbrev pub tallied : Result Heard Refusal → Result Tally Refusal
+tallied (Ok h) = Ok h.tally
+tallied (Err r) = Err r
+
+-- the new carry and the energies held lie in what a call works in
+abbrev pub PartsFit : Heard → Type 0
+PartsFit h = (h.consumed + h.kept.stream.carry_len ≤ values_most) × (h.kept.stream.carry_len ≤ frame_most) × (h.kept.desk.held ≤ warmup_most)

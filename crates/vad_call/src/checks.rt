@@ -16,44 +16,29 @@ pub fn check<'a>(
     carry: &'a [f32],
     warmup: &'a [f32],
     samples: &[f32],
-) -> Refusal
+) -> Result<(), Refusal>
     requires { (length window.now ≡ frame_most) × (length carry.now ≡ frame_most) × (length warmup.now ≡ warmup_most) }
     ensures { result ≡ check_of (state_of kept window.now carry.now warmup.now) samples.now }
 {
     if !sound_lent(kept, window, carry, warmup) {
-        return Refusal {
-            number: 19,
-            carries: 0,
-        };
+        return Err(Refusal::State);
     }
     block_refusal(kept.stream.processed_samples, samples)
 }
 
-fn block_refusal(received: u64, samples: &[f32]) -> Refusal
+fn block_refusal(received: u64, samples: &[f32]) -> Result<(), Refusal>
     requires { received ≤ received_most }
     ensures { result ≡ first_of (block_refusals received samples.now) }
 {
     if BLOCK_MOST < samples.len() {
-        return Refusal {
-            number: 15,
-            carries: 0,
-        };
+        return Err(Refusal::Block);
     }
     let place = ranges::clean(samples);
     if place < samples.len() {
-        return Refusal {
-            number: 16,
-            carries: place,
-        };
+        return Err(Refusal::Sample(place));
     }
     if RECEIVED_MOST < received + samples.len() as u64 {
-        return Refusal {
-            number: 17,
-            carries: 0,
-        };
+        return Err(Refusal::Received);
     }
-    Refusal {
-        number: 0,
-        carries: 0,
-    }
+    Ok(())
 }

@@ -4,7 +4,7 @@
 
 pub mod checks;
 
-ghost use Rattle.std.specs.Prelude.{◌≡◌, true, cond, ◌+◌, ◌≤◌, ◌^◌, [], ◌++◌, length, take};
+ghost use Rattle.std.specs.Prelude.{◌≡◌, true, cond, ◌+◌, ◌≤◌, ◌^◌, [], ◌++◌, length, take, IfOk};
 ghost use Rattle.std.proofs.lemmas.List.Edits.{sets};
 ghost use Rattle.vad_frames.specs.Emphasis.{emphasized, last_of};
 ghost use Rattle.vad_frames.specs.Grid.{frames_of, energies_of, framed_of};
@@ -12,7 +12,7 @@ ghost use Rattle.vad_row.specs.Rows.{room_of, flat};
 ghost use Rattle.vad_segments.specs.Rooms.{LengthsWithin, Within, positions_first, counts_first};
 ghost use Rattle.ranges.specs.Sizes.{frame_most, warmup_most, block_most, received_most};
 ghost use Rattle.vad_state.specs.State.{state_of, sound_of};
-ghost use Rattle.vad_call.specs.Calls.{values_most, energies_most, holding_with, due_of, seeded_of, grid_start, verdict_of, rows_due, no_tally, refused_by, too_many, reported_in, ran_of, written_of, joined_of, settled_of};
+ghost use Rattle.vad_call.specs.Calls.{values_most, energies_most, holding_with, due_of, seeded_of, grid_start, verdict_of, rows_due, refused_by, too_many, reported_in, ran_of, written_of, joined_of, taken_of, settled_of, PartsFit};
 ghost use Rattle.vad_call.specs.Inside.{hearing_of};
 
 use refusals::Refusal;
@@ -20,7 +20,7 @@ use vad_classify::Classified;
 use vad_frames::Framed;
 use vad_row::ROW_FIELDS;
 use vad_segments::Track;
-use vad_state::arrays::{clear_past, fill, fill_warmup, put_first};
+use vad_state::arrays::{clear_past, fill, put_first};
 use vad_state::{Desk, Kept, Stream, VadDetector};
 
 // What a call counted: frames judged, the loud and the quiet among them, and rows written; and the floor after it.
@@ -33,18 +33,16 @@ pub struct Tally {
     pub rows: usize,
 }
 
-// What detect and flush answer: the state is a new one, and the tally filled, only where nothing was refused.
+// What detect and flush answer: the state is a new one only where nothing was refused.
 #[derive(Clone, Copy)]
 pub struct Detected {
-    pub refusal: Refusal,
+    pub outcome: Result<Tally, Refusal>,
     pub detector: VadDetector,
-    pub tally: Tally,
 }
 
-// What a call heard: 0 or 18, where the new carry starts among the values, and the state's numbers and the tally after it.
+// What a call heard: where the new carry starts among the values, and the state's numbers and the tally after it.
 #[derive(Clone, Copy)]
 pub struct Heard {
-    pub refusal: Refusal,
     pub consumed: usize,
     pub kept: Kept,
     pub tally: Tally,
@@ -76,10 +74,7 @@ fn gather(
 fn waiting(kept: Kept) -> usize
     ensures { result ≡ cond kept.desk.warming kept.desk.held 0 }
 {
-    if kept.desk.warming {
-        return kept.desk.held;
-    }
-    0
+    if kept.desk.warming { kept.desk.held } else { 0 }
 }
 
 // The frames by the frame's part of the window, which is lent whole.
@@ -140,45 +135,46 @@ fn measure<'a>(
 }
 
 // Whether frames go on being held.
+#[tactic(auto, unfolding(crate::specs::Calls::holding_with))]
 fn holding(kept: Kept, finish: bool, frames: usize) -> bool
     ensures { result ≡ holding_with finish kept frames }
 {
-    if !kept.desk.warming {
-        return false;
-    }
-    vad_segments::positions::holds(finish, kept.rules.lengths.warmup_frames, frames)
+    kept.desk.warming
+        && vad_segments::positions::holds(finish, kept.rules.lengths.warmup_frames, frames)
 }
 
 // The energies that are judged now: none where they are held.
 fn due_of(holds: bool, energies: &[f32]) -> &[f32]
     ensures { result.now ≡ cond holds [] energies.now }
 {
-    if holds {
-        return &energies[..0];
-    }
-    energies
+    if holds { &energies[..0] } else { energies }
 }
 
 // The track that the frames are judged from: as warm-up ends, its floor is the background's.
+#[tactic(auto, unfolding(crate::specs::Calls::seeded_of, vad_segments::specs::Judging::floored_to))]
 fn seeded(kept: Kept, due: &[f32]) -> Track
     ensures { result ≡ seeded_of kept due.now }
 {
-    let desk = kept.desk;
-    let mut track = desk.track;
-    if !kept.desk.warming {
-        return track;
+    let track = kept.desk.track;
+    if kept.desk.warming {
+        Track {
+            noise_floor: vad_segments::seed(kept.rules.config.energy_floor, track.noise_floor, due),
+            ..track
+        }
+    } else {
+        track
     }
-    track.noise_floor = vad_segments::seed(kept.rules.config.energy_floor, track.noise_floor, due);
-    track
 }
 
+#[tactic(auto, unfolding(crate::specs::Calls::grid_start))]
 fn grid_start(kept: Kept) -> u64
     ensures { result ≡ grid_start kept }
 {
     if kept.desk.warming {
-        return 0;
+        0
+    } else {
+        kept.stream.carry_start
     }
-    kept.stream.carry_start
 }
 
 // The rows, judged once more: most calls have none.
@@ -203,31 +199,18 @@ fn report(kept: Kept, received: u64, due: &[f32], finish: bool, needed: u64, row
     );
 }
 
-// What a refused call counts.
-fn no_tally() -> Tally
-    ensures { result ≡ no_tally }
-{
-    Tally {
-        frames: 0,
-        loud: 0,
-        quiet: 0,
-        noise_floor: 0.0,
-        rows: 0,
-    }
-}
-
-// The state comes back, and nothing was counted.
-pub fn refused(number: u32, carries: usize, detector: VadDetector) -> Detected
-    ensures { result ≡ refused_by number carries detector }
+// The state comes back.
+#[tactic(auto, unfolding(crate::specs::Calls::refused_by))]
+pub fn refused(by: Refusal, detector: VadDetector) -> Detected
+    ensures { result ≡ refused_by by detector }
 {
     Detected {
-        refusal: Refusal { number, carries },
+        outcome: Err(by),
         detector,
-        tally: no_tally(),
     }
 }
 
-// What the frames come to: whether they are held, and the rows that they need; 18 is known before a row is written.
+// What the frames come to: whether they are held, and the rows that they need; whether those fit is known before one is written. No `Result`, since what is needed is told either way.
 #[derive(Clone, Copy)]
 pub struct Outcome {
     pub refused: bool,
@@ -283,35 +266,26 @@ fn hold_or_judge(
 fn held_after(holds: bool, frames: usize) -> usize
     ensures { result ≡ cond holds frames 0 }
 {
-    if holds {
-        return frames;
-    }
-    0
+    if holds { frames } else { 0 }
 }
 
 // What was heard, once the frames are judged.
-fn concluded(kept: Kept, stream: Stream, frames: usize, outcome: Outcome, consumed: usize) -> Heard
+fn concluded(
+    kept: Kept,
+    stream: Stream,
+    frames: usize,
+    outcome: Outcome,
+    consumed: usize,
+) -> Result<Heard, Refusal>
     ensures { result ≡ hearing_of kept stream frames outcome consumed }
 {
     if outcome.refused {
-        return Heard {
-            refusal: Refusal {
-                number: 18,
-                carries: outcome.needed as usize,
-            },
-            consumed: 0,
-            kept,
-            tally: no_tally(),
-        };
+        return Err(Refusal::Rows(outcome.needed as usize));
     }
     let classified = outcome.classified;
     let rules = kept.rules;
     let track = classified.track;
-    Heard {
-        refusal: Refusal {
-            number: 0,
-            carries: 0,
-        },
+    Ok(Heard {
         consumed,
         kept: Kept {
             rules,
@@ -329,7 +303,7 @@ fn concluded(kept: Kept, stream: Stream, frames: usize, outcome: Outcome, consum
             noise_floor: classified.track.noise_floor,
             rows: outcome.needed as usize,
         },
-    }
+    })
 }
 
 // A block heard, or with `finish` the stream's end, by a state's numbers and its arrays as they are lent. The values and the energies stay in the slices lent for them: the new carry starts at `consumed` among the values, the energies held stand first.
@@ -343,13 +317,13 @@ pub fn hear<'a>(
     values: &mut [f32],
     energies: &mut [f32],
     rows: &mut [u64],
-) -> Heard
+) -> Result<Heard, Refusal>
     requires warmup_value { sound_of (state_of kept window.now carry.now warmup.now) ≡ true }
     requires window_len { (length window.now ≡ frame_most) × (length carry.now ≡ frame_most) × (length warmup.now ≡ warmup_most) × (length values.old ≡ values_most) × (length energies.old ≡ energies_most) }
     requires samples_len_bound { (length samples.now ≤ block_most) × (kept.stream.processed_samples + length samples.now ≤ received_most) }
     ensures rows_value { ran_of finish (state_of kept window.now carry.now warmup.now) samples.now (length rows.old) ≡ settled_of result values.new energies.new (state_of kept window.now carry.now warmup.now) }
-    ensures kept_value { (result.kept ≡ (ran_of finish (state_of kept window.now carry.now warmup.now) samples.now (length rows.old)).detector.kept) × (result.kept.stream.carry_start ≡ kept.stream.carry_start + result.consumed) }
-    ensures carry_len_bound { result.refusal.number ≡ 0 → (result.consumed + result.kept.stream.carry_len ≤ values_most) × (result.kept.stream.carry_len ≤ frame_most) × (result.kept.desk.held ≤ warmup_most) }
+    ensures kept_value { IfOk result (λ h. (h.kept ≡ (ran_of finish (state_of kept window.now carry.now warmup.now) samples.now (length rows.old)).detector.kept) × (h.kept.stream.carry_start ≡ kept.stream.carry_start + h.consumed)) }
+    ensures carry_len_bound { IfOk result PartsFit }
     ensures rows_left { rows.new ≡ written_of finish (state_of kept window.now carry.now warmup.now) samples.now rows.old }
 {
     let coeff = vad_frames::coefficient(
@@ -402,34 +376,42 @@ fn joined(mut detector: VadDetector, kept: Kept, carry: &[f32], held: &[f32]) ->
     let frame_length = detector.kept.rules.lengths.frame_length;
     clear_past(&mut detector.window, frame_length);
     fill(&mut detector.carry, carry);
-    fill_warmup(&mut detector.warmup, held);
+    fill(&mut detector.warmup, held);
     detector.kept = kept;
     detector
 }
 
 // The answer, from what was heard and the slices that it was heard in.
-fn settled(heard: Heard, detector: VadDetector, values: &[f32], energies: &[f32]) -> Detected
+#[tactic(auto, unfolding(crate::specs::Calls::settled_of))]
+fn settled(
+    hearing: Result<Heard, Refusal>,
+    detector: VadDetector,
+    values: &[f32],
+    energies: &[f32],
+) -> Detected
     requires frame_length_bound { (detector.kept.rules.lengths.frame_length ≤ frame_most) × (length values.now ≡ values_most) × (length energies.now ≡ energies_most) }
-    requires carry_len_bound { heard.refusal.number ≡ 0 → (heard.consumed + heard.kept.stream.carry_len ≤ values_most) × (heard.kept.stream.carry_len ≤ frame_most) × (heard.kept.desk.held ≤ warmup_most) }
-    ensures { result ≡ settled_of heard values.now energies.now detector }
+    requires carry_len_bound { IfOk hearing PartsFit }
+    ensures { result ≡ settled_of hearing values.now energies.now detector }
 {
-    let refusal = heard.refusal;
-    let kept = heard.kept;
-    let tally = heard.tally;
-    if refusal.number != 0 {
-        return Detected {
-            refusal,
-            detector,
-            tally,
-        };
+    match hearing {
+        Err(by) => refused(by, detector),
+        Ok(heard) => taken(heard, detector, values, energies),
     }
+}
+
+// The answer to a call that was not refused.
+fn taken(heard: Heard, detector: VadDetector, values: &[f32], energies: &[f32]) -> Detected
+    requires frame_length_bound { (detector.kept.rules.lengths.frame_length ≤ frame_most) × (length values.now ≡ values_most) × (length energies.now ≡ energies_most) }
+    requires carry_len_bound { PartsFit heard }
+    ensures { result ≡ taken_of heard values.now energies.now detector }
+{
+    let kept = heard.kept;
     let consumed = heard.consumed;
     let end = consumed + kept.stream.carry_len;
     let held = kept.desk.held;
     Detected {
-        refusal,
+        outcome: Ok(heard.tally),
         detector: joined(detector, kept, &values[consumed..end], &energies[0..held]),
-        tally,
     }
 }
 

@@ -1,5 +1,6 @@
 -- One turn of the loops over frames, over plain lists. Assumes nothing.
-use mathlib.Core.Path.{◌≡◌, sym, ap, ◌∙◌}
+use mathlib.Core.Path.{◌≡◌, refl, sym, ap, ◌∙◌}
+use Rattle.std.specs.Int.{from_bool}
 use mathlib.Core.Bool.{Bool, true, false, cond}
 use mathlib.Core.List.{List, [], ◌++◌}
 use Prim.Native.Nat.{ℕ, suc, ◌+◌, ◌≤◌, ◌<◌}
@@ -17,9 +18,10 @@ use Rattle.vad_segments.specs.declared.Track.{Track}
 use Rattle.vad_segments.specs.declared.Judged.{Judged}
 use Rattle.vad_row.proofs.Laws.{flat_append}
 
-pub count_le : (b : Bool) → cond b 1 0 ≤ 1
-count_le true = omega arith
-count_le false = omega arith
+-- a flag as a number is what `count_of` counts, and at most one
+pub flag_is : (b : Bool) → (from_bool b ≡ cond b 1 0) × (cond b 1 0 ≤ 1)
+flag_is true = (refl, omega arith)
+flag_is false = (refl, omega arith)
 
 -- the frames that are left from the energy i on
 abbrev pub rest_at : Rules → ℕ → ℕ → ℕ → List Float → List FrameMetrics

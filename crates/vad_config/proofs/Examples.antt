@@ -8,7 +8,7 @@ use Rattle.float.specs.Numbers.{zero32, one32}
 use Rattle.ranges.specs.Ranges.{rate_in}
 use Rattle.vad_config.specs.Domain.{in_unit, duration_in, start_in, received_in}
 use Rattle.vad_config.specs.Lengths.{frame_samples, frame_length_of, hop_length_of, warmup_frames_of, seconds_of, padding_samples_of, time_of, time_of_sample_of}
-use Rattle.vad_config.specs.Settings.{frame_of, hop_of, warmup_of, framing_refusals, level_refusals, limit_refusals, refusal_of}
+use Rattle.vad_config.specs.Settings.{frame_of, hop_of, warmup_of, framing_refusals, level_refusals, limit_refusals, outcome_of, refusal_of}
 
 -- ---- document 01's table
 abbrev half : Float
@@ -115,7 +115,7 @@ pub table_refusals :
     (refusal_of (framed 8000 1000000 zero32) ≡ 0)
     × (refusal_of (framed 8000 875000 zero32) ≡ 12)
     × (refusal_of (levelled (of_bits binary32 0x4020_0000) (inf false) zero32 zero32 one32) ≡ 6)
-unfolding refusal_of framing_refusals level_refusals limit_refusals first_of in_unit rate_in duration_in start_in frame_of frame_length_of frame_samples hop_of hop_length_of warmup_of warmup_frames_of round_of ceil_of mul sub div add sum neg round of_int of_bits le lt eq is_nan
+unfolding refusal_of outcome_of framing_refusals level_refusals limit_refusals first_of in_unit rate_in duration_in start_in frame_of frame_length_of frame_samples hop_of hop_length_of warmup_of warmup_frames_of round_of ceil_of mul sub div add sum neg round of_int of_bits le lt eq is_nan
 table_refusals = (refl, refl, refl)
 
 -- rates, and nanoseconds
@@ -127,7 +127,7 @@ rate_edges :
     × (refusal_of (framed 16000 0 half) ≡ 2)
     × (refusal_of (framed 16000 1000000001 half) ≡ 2)
     × (refusal_of (framed 16000 1000000000 half) ≡ 11)
-unfolding refusal_of framing_refusals level_refusals limit_refusals first_of in_unit rate_in duration_in start_in frame_of frame_length_of frame_samples hop_of hop_length_of warmup_of warmup_frames_of round_of ceil_of mul sub div add sum neg round of_int of_bits le lt eq is_nan
+unfolding refusal_of outcome_of framing_refusals level_refusals limit_refusals first_of in_unit rate_in duration_in start_in frame_of frame_length_of frame_samples hop_of hop_length_of warmup_of warmup_frames_of round_of ceil_of mul sub div add sum neg round of_int of_bits le lt eq is_nan
 rate_edges = (refl, refl, refl, refl, refl, refl, refl)
 
 -- overlaps: −0, NaN, 1, the number just below it, which leaves hops of 1, an infinity, and the least negative number
@@ -138,7 +138,7 @@ overlap_edges :
     × (refusal_of (framed 16000 20000000 (of_bits binary32 0x3F7F_FFFF)) ≡ 12)
     × (refusal_of (framed 16000 20000000 (inf true)) ≡ 3)
     × (refusal_of (framed 16000 20000000 (of_bits binary32 0x8000_0001)) ≡ 3)
-unfolding refusal_of framing_refusals level_refusals limit_refusals first_of in_unit rate_in duration_in start_in frame_of frame_length_of frame_samples hop_of hop_length_of warmup_of warmup_frames_of round_of ceil_of mul sub div add sum neg round of_int of_bits le lt eq is_nan
+unfolding refusal_of outcome_of framing_refusals level_refusals limit_refusals first_of in_unit rate_in duration_in start_in frame_of frame_length_of frame_samples hop_of hop_length_of warmup_of warmup_frames_of round_of ceil_of mul sub div add sum neg round of_int of_bits le lt eq is_nan
 overlap_edges = (refl, refl, refl, refl, refl, refl)
 
 -- pre-emphasis: 0.97, just below 1, 1, a NaN, and a NaN that is not present
@@ -149,7 +149,7 @@ emphasis_edges :
     × (refusal_of (emphasised true one32) ≡ 4)
     × (refusal_of (emphasised true nan) ≡ 4)
     × (refusal_of (emphasised false nan) ≡ 0)
-unfolding refusal_of framing_refusals level_refusals limit_refusals first_of in_unit rate_in duration_in start_in frame_of frame_length_of frame_samples hop_of hop_length_of warmup_of warmup_frames_of round_of ceil_of mul sub div add sum neg round of_int of_bits le lt eq is_nan
+unfolding refusal_of outcome_of framing_refusals level_refusals limit_refusals first_of in_unit rate_in duration_in start_in frame_of frame_length_of frame_samples hop_of hop_length_of warmup_of warmup_frames_of round_of ceil_of mul sub div add sum neg round of_int of_bits le lt eq is_nan
 emphasis_edges = (refl, refl, refl, refl, refl, refl)
 
 -- release: 1, just below it, NaN; activation: equal to release, below it, NaN, infinite
@@ -162,7 +162,7 @@ ratio_edges :
     × (refusal_of (levelled nan one32 zero32 zero32 one32) ≡ 6)
     × (refusal_of (levelled (inf false) one32 zero32 zero32 one32) ≡ 6)
     × (refusal_of (levelled (inf false) (inf false) zero32 zero32 one32) ≡ 6)
-unfolding refusal_of framing_refusals level_refusals limit_refusals first_of in_unit rate_in duration_in start_in frame_of frame_length_of frame_samples hop_of hop_length_of warmup_of warmup_frames_of round_of ceil_of mul sub div add sum neg round of_int of_bits le lt eq is_nan
+unfolding refusal_of outcome_of framing_refusals level_refusals limit_refusals first_of in_unit rate_in duration_in start_in frame_of frame_length_of frame_samples hop_of hop_length_of warmup_of warmup_frames_of round_of ceil_of mul sub div add sum neg round of_int of_bits le lt eq is_nan
 ratio_edges = (refl, refl, refl, refl, refl, refl, refl, refl)
 
 -- gate: −0, the least negative number, infinite; smoothing: 1, −0; floor: both zeros, the smallest subnormal, negative, infinite, NaN
@@ -178,14 +178,14 @@ energy_edges :
     × (refusal_of (levelled (of_bits binary32 0x4020_0000) one32 zero32 zero32 (of_bits binary32 0x8000_0001)) ≡ 9)
     × (refusal_of (levelled (of_bits binary32 0x4020_0000) one32 zero32 zero32 (inf false)) ≡ 9)
     × (refusal_of (levelled (of_bits binary32 0x4020_0000) one32 zero32 zero32 nan) ≡ 9)
-unfolding refusal_of framing_refusals level_refusals limit_refusals first_of in_unit rate_in duration_in start_in frame_of frame_length_of frame_samples hop_of hop_length_of warmup_of warmup_frames_of round_of ceil_of mul sub div add sum neg round of_int of_bits le lt eq is_nan
+unfolding refusal_of outcome_of framing_refusals level_refusals limit_refusals first_of in_unit rate_in duration_in start_in frame_of frame_length_of frame_samples hop_of hop_length_of warmup_of warmup_frames_of round_of ceil_of mul sub div add sum neg round of_int of_bits le lt eq is_nan
 energy_edges = (refl, refl, refl, refl, refl, refl, refl, refl, refl, refl, refl)
 
 -- 2,048 samples at 48 kHz, and 2,049
 sample_edges :
     (refusal_of (framed 48000 42666667 half) ≡ 0)
     × (refusal_of (framed 48000 42687500 half) ≡ 11)
-unfolding refusal_of framing_refusals level_refusals limit_refusals first_of in_unit rate_in duration_in start_in frame_of frame_length_of frame_samples hop_of hop_length_of warmup_of warmup_frames_of round_of ceil_of mul sub div add sum neg round of_int of_bits le lt eq is_nan
+unfolding refusal_of outcome_of framing_refusals level_refusals limit_refusals first_of in_unit rate_in duration_in start_in frame_of frame_length_of frame_samples hop_of hop_length_of warmup_of warmup_frames_of round_of ceil_of mul sub div add sum neg round of_int of_bits le lt eq is_nan
 sample_edges = (refl, refl)
 
 -- minimum 0; hangover, padding, minimum and start at their limits, and past each of them
@@ -196,7 +196,7 @@ limit_edges :
     × (refusal_of (limited 20 1000000001 3 0) ≡ 13)
     × (refusal_of (limited 20 50000000 10001 0) ≡ 13)
     × (refusal_of (limited 20 50000000 3 9223372036854775808) ≡ 13)
-unfolding refusal_of framing_refusals level_refusals limit_refusals first_of in_unit rate_in duration_in start_in frame_of frame_length_of frame_samples hop_of hop_length_of warmup_of warmup_frames_of round_of ceil_of mul sub div add sum neg round of_int of_bits le lt eq is_nan
+unfolding refusal_of outcome_of framing_refusals level_refusals limit_refusals first_of in_unit rate_in duration_in start_in frame_of frame_length_of frame_samples hop_of hop_length_of warmup_of warmup_frames_of round_of ceil_of mul sub div add sum neg round of_int of_bits le lt eq is_nan
 limit_edges = (refl, refl, refl, refl, refl, refl)
 
 -- the first that holds is told: 1 before 2, 3 before 9, 10 before 13
@@ -204,5 +204,5 @@ order :
     (refusal_of (framed 0 0 nan) ≡ 1)
     × (refusal_of (settings 16000 20000000 nan true nan nan nan nan nan nan 20 0 0 0) ≡ 3)
     × (refusal_of (limited 10001 50000000 0 0) ≡ 10)
-unfolding refusal_of framing_refusals level_refusals limit_refusals first_of in_unit rate_in duration_in start_in frame_of frame_length_of frame_samples hop_of hop_length_of warmup_of warmup_frames_of round_of ceil_of mul sub div add sum neg round of_int of_bits le lt eq is_nan
+unfolding refusal_of outcome_of framing_refusals level_refusals limit_refusals first_of in_unit rate_in duration_in start_in frame_of frame_length_of frame_samples hop_of hop_length_of warmup_of warmup_frames_of round_of ceil_of mul sub div add sum neg round of_int of_bits le lt eq is_nan
 order = (refl, refl, refl)

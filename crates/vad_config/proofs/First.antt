@@ -1,16 +1,24 @@
 -- The three runs of tests, one after the other. Assumes nothing.
-use Rattle.std.proofs.Common.{◌≡◌, ◌++◌, refl, ap, ◌∙◌}
+use Rattle.std.proofs.Common.{◌≡◌, ◌++◌, ◌∙◌}
+use Rattle.std.specs.Prelude.{Ok, Err}
 use Rattle.refusals.specs.Refusals.{first_of}
 use Rattle.refusals.specs.declared.Refusal.{Refusal}
-use Rattle.refusals.proofs.First.{first_none}
+use Rattle.refusals.proofs.First.{first_found, first_none}
 use Rattle.vad_config.specs.declared.VadConfig.{VadConfig}
-use Rattle.vad_config.specs.Settings.{framing_refusals, level_refusals, limit_refusals, refusal_of}
+use Rattle.vad_config.specs.Settings.{framing_refusals, level_refusals, limit_refusals, outcome_of}
 
-module _ (c : VadConfig) (h : (first_of (framing_refusals c)).number ≡ 0) where
-  pub after_framing : refusal_of c ≡ (first_of (level_refusals c ++ limit_refusals c)).number
-  unfolding refusal_of framing_refusals
-  after_framing = ap (λ (r : Refusal). r.number) (first_none (framing_refusals c) (level_refusals c ++ limit_refusals c) refl h)
+module _ (c : VadConfig) where
+  pub in_framing : {r : Refusal} → first_of (framing_refusals c) ≡ Err r → outcome_of c ≡ Err r
+  unfolding outcome_of
+  in_framing = first_found (framing_refusals c) (level_refusals c ++ limit_refusals c)
 
-  pub after_levels : (first_of (level_refusals c)).number ≡ 0 → refusal_of c ≡ (first_of (limit_refusals c)).number
-  unfolding level_refusals
-  after_levels g = after_framing ∙ ap (λ (r : Refusal). r.number) (first_none (level_refusals c) (limit_refusals c) refl g)
+  module _ (h : first_of (framing_refusals c) ≡ Ok tt) where
+    after_framing : outcome_of c ≡ first_of (level_refusals c ++ limit_refusals c)
+    unfolding outcome_of
+    after_framing = first_none (framing_refusals c) (level_refusals c ++ limit_refusals c) h
+
+    pub in_levels : {r : Refusal} → first_of (level_refusals c) ≡ Err r → outcome_of c ≡ Err r
+    in_levels g = after_framing ∙ first_found (level_refusals c) (limit_refusals c) g
+
+    pub in_limits : first_of (level_refusals c) ≡ Ok tt → outcome_of c ≡ first_of (limit_refusals c)
+    in_limits g = after_framing ∙ first_none (level_refusals c) (limit_refusals c) g

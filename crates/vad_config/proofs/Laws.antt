@@ -1,19 +1,21 @@
 -- What holds of settings that are not refused, and of the time of a sample. Other crates cite these laws, and not the definitions.
-use Rattle.std.proofs.Common.{◌≡◌, ℕ, zero, suc, ◌+◌, ◌*◌, ◌/◌, ◌^◌, ◌<◌, ◌≤◌, Bool, true, false, not, ◌&&◌, ◌||◌, T, eqb, ltb, sym, refl, inl, inr, true≢false, le_trans, le_of_eq, le_refl, add-le-add, mul-le-mul_right, zero-lt-suc, eq-or-lt_of_le, mul-le-mul_left, div-mul-le_self, arith, ltb-false, le-ltb, lt-ltb, eq-eqb, le-leb}
+use Rattle.std.proofs.Common.{◌≡◌, ℕ, zero, suc, ◌+◌, ◌*◌, ◌/◌, ◌^◌, ◌<◌, ◌≤◌, Bool, true, false, not, ◌&&◌, ◌||◌, T, eqb, ltb, sym, ap, ◌∙◌, refl, inl, inr, true≢false, le_trans, le_of_eq, le_refl, add-le-add, mul-le-mul_right, zero-lt-suc, eq-or-lt_of_le, mul-le-mul_left, div-mul-le_self, arith, ltb-false, le-ltb, lt-ltb, eq-eqb, le-leb}
 use native.Mathlib.Nat.{div-zero}
+use Rattle.std.specs.Prelude.{Result, ⊤, is_ok}
+use Rattle.refusals.specs.declared.Refusal.{Refusal}
 use native.Mathlib.Decide.{dec_lt}
 use lib.Ieee.{Float, nan, inf, fin, up, down, below, level, is_nan, lt, le, eq, of_bits}
 use lib.Ieee.Nearest.{div_mono}
 use lib.Ieee.Scale.{finite}
-use borrow.Author.Tests.{not-false, eqb-false}
+use borrow.Author.Tests.{not-false, eqb-false, eqb-true}
 use Rattle.float.proofs.Words.{T_of}
-use Rattle.refusals.proofs.First.{passed}
+use Rattle.refusals.proofs.First.{none_refused, ok_tells, passed}
 use Rattle.vad_config.specs.declared.VadConfig.{VadConfig}
 use Rattle.float.specs.Numbers.{zero32, one32}
 use Rattle.ranges.specs.Ranges.{rate_in}
 use Rattle.vad_config.specs.Domain.{in_unit, duration_in, start_in, received_in}
 use Rattle.vad_config.specs.Lengths.{frame_samples, frame_length_of, warmup_frames_of, time_of, time_of_sample_of}
-use Rattle.vad_config.specs.Settings.{framing_refusals, level_refusals, limit_refusals, refusal_of, lengths_of, frame_of, hop_of, warmup_of, padding_of}
+use Rattle.vad_config.specs.Settings.{framing_refusals, level_refusals, limit_refusals, outcome_of, refusal_of, lengths_of, frame_of, hop_of, warmup_of, padding_of}
 use Rattle.ranges.proofs.Laws.{rate_in_lem}
 use Rattle.vad_config.proofs.Ranges.{duration_in_lem, start_in_lem}
 use Rattle.vad_config.proofs.Bounds.{hop_le, warmup_many, padding_le}
@@ -109,21 +111,21 @@ pub record Accepted (c : VadConfig) : Type 0 where
   pub warmup_high : warmup_of c ≤ 300
 
 pub accepted : (c : VadConfig) → refusal_of c ≡ 0 → Accepted c
-unfolding refusal_of framing_refusals level_refusals limit_refusals
+unfolding refusal_of outcome_of framing_refusals level_refusals limit_refusals
 accepted c h =
-    let p1 = passed _ _ refl h in
-    let p2 = passed _ _ p1.1.0 p1.1.1 in
-    let p3 = passed _ _ p2.1.0 p2.1.1 in
-    let p4 = passed _ _ p3.1.0 p3.1.1 in
-    let p5 = passed _ _ p4.1.0 p4.1.1 in
-    let p6 = passed _ _ p5.1.0 p5.1.1 in
-    let p7 = passed _ _ p6.1.0 p6.1.1 in
-    let p8 = passed _ _ p7.1.0 p7.1.1 in
-    let p9 = passed _ _ p8.1.0 p8.1.1 in
-    let p10 = passed _ _ p9.1.0 p9.1.1 in
-    let p11 = passed _ _ p10.1.0 p10.1.1 in
-    let p12 = passed _ _ p11.1.0 p11.1.1 in
-    let p13 = passed _ _ p12.1.0 p12.1.1 in
+    let p1 = passed _ _ (none_refused _ h) in
+    let p2 = passed _ _ p1.1 in
+    let p3 = passed _ _ p2.1 in
+    let p4 = passed _ _ p3.1 in
+    let p5 = passed _ _ p4.1 in
+    let p6 = passed _ _ p5.1 in
+    let p7 = passed _ _ p6.1 in
+    let p8 = passed _ _ p7.1 in
+    let p9 = passed _ _ p8.1 in
+    let p10 = passed _ _ p9.1 in
+    let p11 = passed _ _ p10.1 in
+    let p12 = passed _ _ p11.1 in
+    let p13 = passed _ _ p12.1 in
     let r = c.release_ratio in
     let a = c.activation_ratio in
     let e = c.energy_floor in
@@ -166,6 +168,18 @@ accepted c h =
   where
     above_none : (n : ℕ) → eqb n 0 ≡ false → 1 ≤ n
     above_none n h = let z = eqb-false n 0 h in omega arith
+
+-- as code asks it: a callee's answer v, and t, whether it is no refusal
+module _ (c : VadConfig) {v : Result ⊤ Refusal} {t : Bool} (e : v ≡ outcome_of c) (f : t ≡ is_ok v) where
+  told : eqb (refusal_of c) 0 ≡ t
+  unfolding refusal_of
+  told = ok_tells (outcome_of c) ∙ sym (f ∙ ap (λ (u : Result ⊤ Refusal). is_ok u) e)
+
+  pub accepted_by : t ≡ true → refusal_of c ≡ 0
+  accepted_by h = eqb-true _ _ (told ∙ h)
+
+  pub refused_by : t ≡ false → eqb (refusal_of c) 0 ≡ false
+  refused_by h = told ∙ h
 
 -- ---- the lengths
 pub lengths_are : (c : VadConfig) → ((lengths_of c).frame_length ≡ frame_of c) × ((lengths_of c).hop_length ≡ hop_of c) × ((lengths_of c).warmup_frames ≡ warmup_of c) × ((lengths_of c).padding_samples ≡ padding_of c)

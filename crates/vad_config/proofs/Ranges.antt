@@ -5,6 +5,8 @@ use lib.Ieee.{Float, le, lt}
 use lib.Ieee.Fits.{and_l, and_r}
 use Rattle.float.proofs.Words.{T_of}
 use Rattle.float.specs.Numbers.{zero32, one32}
+use Rattle.ranges.specs.Ranges.{rate_in}
+use Rattle.ranges.proofs.Laws.{rate_in_lem}
 use Rattle.vad_config.specs.Domain.{in_unit, duration_in, start_in}
 
 pub unit_in : (x : Float) → in_unit x ≡ true → T (le zero32 x) × T (lt x one32)
@@ -20,8 +22,8 @@ unfolding start_in
 start_in_lem ns h = ltb→lt ns (2 ^ 63) (T_of h)
 
 -- ---- what the code's products come to
-pub samples_fit : (ns rate : ℕ) → ns ≤ 1000000000 → rate ≤ 48000 → ns * rate ≤ 48000000000000
-samples_fit ns rate h g = mul-le-mul h g
+pub frame_fits : (ns rate : ℕ) → rate_in rate ≡ true → duration_in ns ≡ true → ns * rate ≤ 48000000000000
+frame_fits ns rate r d = mul-le-mul (duration_in_lem ns d).1 (rate_in_lem rate r).1
 
 pub rest_fits : (rate n : ℕ) → 8000 ≤ rate → rate ≤ 48000 → n % rate * 1000000000 ≤ 48000000000000
 rest_fits rate n h g = let m = mod-lt n {m = rate} (omega arith) in omega arith
@@ -43,3 +45,6 @@ time_split rate n half h =
     ∙ ap (λ (k : ℕ). (k + half) / rate) (add-mul (n / rate * rate) (n % rate) 1000000000 ∙ ap (λ (k : ℕ). k + n % rate * 1000000000) (mul_right_comm (n / rate) rate 1000000000))
     ∙ ap (λ (k : ℕ). k / rate) (add_assoc (n / rate * 1000000000 * rate) (n % rate * 1000000000) half)
     ∙ mul-add-div_right h (n / rate * 1000000000) (n % rate * 1000000000 + half)
+
+-- what `time_of_sample` stands on
+pub ruleset times = (rate_in_lem, start_in_lem, rest_fits, seconds_fit, time_held, time_split)

@@ -2,13 +2,15 @@
 use Rattle.std.proofs.Common.{◌≡◌, ℕ, Bool}
 use lib.Ieee.{Float}
 use Rattle.float.proofs.Unique.{only}
+use Rattle.std.specs.Prelude.{Result, ⊤}
+use Rattle.refusals.specs.declared.Refusal.{Refusal}
 use Rattle.vad_config.specs.declared.VadConfig.{VadConfig}
 use Rattle.vad_config.specs.declared.Lengths.{Lengths}
 use Rattle.vad_config.specs.Domain.{start_in}
 use Rattle.vad_config.specs.Lengths.{frame_length_of, hop_length_of, warmup_frames_of, padding_samples_of, time_of_sample_of}
-use Rattle.vad_config.specs.Settings.{lengths_of, refusal_of}
+use Rattle.vad_config.specs.Settings.{lengths_of, outcome_of}
 
-pub validate_unique : (c : VadConfig) (r q : ℕ) → r ≡ refusal_of c → q ≡ refusal_of c → r ≡ q
+pub validate_unique : (c : VadConfig) (r q : Result ⊤ Refusal) → r ≡ outcome_of c → q ≡ outcome_of c → r ≡ q
 validate_unique c r q = only
 
 pub lengths_of_unique : (c : VadConfig) (r q : Lengths) → r ≡ lengths_of c → q ≡ lengths_of c → r ≡ q

@@ -1,8 +1,10 @@
 -- Document 01's 'Refusal numbers' 1 to 13: 'given exactly when', each test with its number, and the first that holds.
-use Rattle.std.specs.Prelude.{ℕ, not, ◌&&◌, ◌||◌, List, [], ◌∷◌, ◌++◌, ◌==◌, is_nan, nat_lt}
+use Rattle.std.specs.Prelude.{ℕ, not, ◌&&◌, ◌||◌, List, [], ◌∷◌, ◌++◌, ◌==◌, is_nan, nat_lt, Result, ⊤}
 use Rattle.std.specs.Float.Ieee.{lt}
 use Rattle.std.specs.Float.Ieee.Scale.{finite}
-use Rattle.refusals.specs.Refusals.{Case, bare, first_of}
+use Rattle.refusals.specs.Refusals.{Case, refusing, first_of, number_in}
+use Rattle.refusals.specs.declared.Refusal.{Refusal}
+use Rattle.refusals.specs.declared.Refusal.TheVariants as why
 use Rattle.vad_config.specs.declared.VadConfig.{VadConfig}
 use Rattle.vad_config.specs.declared.Lengths.{Lengths}
 use Rattle.float.specs.Numbers.{zero32, one32}
@@ -38,10 +40,10 @@ lengths_of c = record {
 -- 4 '`pre_emphasis` present and not in [0,1)'
 unfoldable pub framing_refusals : VadConfig → List Case
 framing_refusals c =
-    bare 1 (not (rate_in c.sample_rate))
-    ∷ bare 2 (not (duration_in c.frame_duration))
-    ∷ bare 3 (not (in_unit c.frame_overlap))
-    ∷ bare 4 (c.has_pre_emphasis && not (in_unit c.pre_emphasis))
+    refusing why.Rate (not (rate_in c.sample_rate))
+    ∷ refusing why.FrameDuration (not (duration_in c.frame_duration))
+    ∷ refusing why.FrameOverlap (not (in_unit c.frame_overlap))
+    ∷ refusing why.PreEmphasis (c.has_pre_emphasis && not (in_unit c.pre_emphasis))
     ∷ []
 
 -- 5 '`release_ratio` NaN or below 1'
@@ -52,12 +54,12 @@ framing_refusals c =
 -- 10 '`min_speech_frames` is 0'
 unfoldable pub level_refusals : VadConfig → List Case
 level_refusals c =
-    bare 5 (is_nan c.release_ratio || lt c.release_ratio one32)
-    ∷ bare 6 (not (finite c.activation_ratio) || lt c.activation_ratio c.release_ratio)
-    ∷ bare 7 (not (finite c.min_speech_energy) || lt c.min_speech_energy zero32)
-    ∷ bare 8 (not (in_unit c.noise_smoothing))
-    ∷ bare 9 (not (finite c.energy_floor) || not (lt zero32 c.energy_floor))
-    ∷ bare 10 (c.min_speech_frames == 0)
+    refusing why.ReleaseRatio (is_nan c.release_ratio || lt c.release_ratio one32)
+    ∷ refusing why.ActivationRatio (not (finite c.activation_ratio) || lt c.activation_ratio c.release_ratio)
+    ∷ refusing why.MinSpeechEnergy (not (finite c.min_speech_energy) || lt c.min_speech_energy zero32)
+    ∷ refusing why.NoiseSmoothing (not (in_unit c.noise_smoothing))
+    ∷ refusing why.EnergyFloor (not (finite c.energy_floor) || not (lt zero32 c.energy_floor))
+    ∷ refusing why.MinSpeechFrames (c.min_speech_frames == 0)
     ∷ []
 
 -- 11 'frame above 2,048 samples': asked only where 1 and 2 passed, so of document 01's length
@@ -65,11 +67,15 @@ level_refusals c =
 -- 13 'padding, hangover, `min_speech_frames` or stream start above what the domain allows'
 unfoldable pub limit_refusals : VadConfig → List Case
 limit_refusals c =
-    bare 11 (nat_lt frame_most (frame_of c))
-    ∷ bare 12 (nat_lt warmup_most (warmup_of c))
-    ∷ bare 13 (nat_lt 1000000000 c.speech_padding || nat_lt 10000 c.hangover_frames || nat_lt 10000 c.min_speech_frames || not (start_in c.stream_start_time))
+    refusing why.FrameLength (nat_lt frame_most (frame_of c))
+    ∷ refusing why.Warmup (nat_lt warmup_most (warmup_of c))
+    ∷ refusing why.Limits (nat_lt 1000000000 c.speech_padding || nat_lt 10000 c.hangover_frames || nat_lt 10000 c.min_speech_frames || not (start_in c.stream_start_time))
     ∷ []
 
--- 'Order: opening 1 to 14': the number of the first that holds, 0 where none does. 14 speaks of what the host hands in at opening, which is no setting.
+-- 'Order: opening 1 to 14': the first that holds. 14 speaks of what the host hands in at opening, which is no setting.
+unfoldable pub outcome_of : VadConfig → Result ⊤ Refusal
+outcome_of c = first_of (framing_refusals c ++ (level_refusals c ++ limit_refusals c))
+
+-- its number, 0 where none holds
 unfoldable pub refusal_of : VadConfig → ℕ
-refusal_of c = (first_of (framing_refusals c ++ (level_refusals c ++ limit_refusals c))).number
+refusal_of c = number_in (outcome_of c)

@@ -9,14 +9,17 @@ ghost use Rattle.vad_config.specs.Settings.{framing_refusals, level_refusals, li
 
 use super::{VadConfig, lengths_of, start_allowed};
 use ranges::{FRAME_MOST, WARMUP_MOST, rate_allowed};
+use refusals::Refusal;
 
+#[tactic(auto, unfolding(crate::specs::Domain::duration_in))]
 pub fn duration_allowed(frame_duration: u64) -> bool
     ensures { result ≡ duration_in frame_duration }
 {
-    1 <= frame_duration && frame_duration <= 1_000_000_000
+    (1..=1_000_000_000).contains(&frame_duration)
 }
 
 // In [0,1): no NaN, and -0 is in it.
+#[tactic(auto, unfolding(crate::specs::Domain::in_unit))]
 fn in_unit(x: f32) -> bool
     ensures { result ≡ in_unit x }
 {
@@ -27,87 +30,87 @@ fn in_unit(x: f32) -> bool
 fn nan_or_below(x: f32, least: f32) -> bool
     ensures { result ≡ is_nan x || lt x least }
 {
-    x != x || x < least
+    x.is_nan() || x < least
 }
 
+#[tactic(auto, using(float::proofs::Words::finite_is))]
 fn not_finite_or_below(x: f32, least: f32) -> bool
     ensures { result ≡ not (finite x) || lt x least }
 {
-    !float::is_finite(x) || x < least
+    !x.is_finite() || x < least
 }
 
+#[tactic(auto, using(float::proofs::Words::finite_is))]
 fn not_finite_or_not_positive(x: f32) -> bool
     ensures { result ≡ not (finite x) || not (lt zero32 x) }
 {
-    !float::is_finite(x) || !(0.0 < x)
+    !x.is_finite() || !(0.0 < x)
 }
 
 // 1 to 4.
-pub fn framing(config: VadConfig) -> u32
-    ensures { result ≡ (first_of (framing_refusals config)).number }
+#[tactic(auto, unfolding(refusals::specs::Refusals::first_of, crate::specs::Settings::framing_refusals))]
+pub fn framing(config: VadConfig) -> Result<(), Refusal>
+    ensures { result ≡ first_of (framing_refusals config) }
 {
     if !rate_allowed(config.sample_rate) {
-        return 1;
+        return Err(Refusal::Rate);
     }
     if !duration_allowed(config.frame_duration) {
-        return 2;
+        return Err(Refusal::FrameDuration);
     }
     if !in_unit(config.frame_overlap) {
-        return 3;
+        return Err(Refusal::FrameOverlap);
     }
     if config.has_pre_emphasis && !in_unit(config.pre_emphasis) {
-        return 4;
+        return Err(Refusal::PreEmphasis);
     }
-    0
+    Ok(())
 }
 
 // 5 to 10.
-pub fn levels(config: VadConfig) -> u32
-    ensures { result ≡ (first_of (level_refusals config)).number }
+#[tactic(auto, unfolding(refusals::specs::Refusals::first_of, crate::specs::Settings::level_refusals))]
+pub fn levels(config: VadConfig) -> Result<(), Refusal>
+    ensures { result ≡ first_of (level_refusals config) }
 {
     if nan_or_below(config.release_ratio, 1.0) {
-        return 5;
+        return Err(Refusal::ReleaseRatio);
     }
     if not_finite_or_below(config.activation_ratio, config.release_ratio) {
-        return 6;
+        return Err(Refusal::ActivationRatio);
     }
     if not_finite_or_below(config.min_speech_energy, 0.0) {
-        return 7;
+        return Err(Refusal::MinSpeechEnergy);
     }
     if !in_unit(config.noise_smoothing) {
-        return 8;
+        return Err(Refusal::NoiseSmoothing);
     }
     if not_finite_or_not_positive(config.energy_floor) {
-        return 9;
+        return Err(Refusal::EnergyFloor);
     }
     if config.min_speech_frames == 0 {
-        return 10;
+        return Err(Refusal::MinSpeechFrames);
     }
-    0
+    Ok(())
 }
 
 // 11 to 13.
-pub fn limits(config: VadConfig) -> u32
-    ensures { result ≡ (first_of (limit_refusals config)).number }
+#[tactic(auto, unfolding(refusals::specs::Refusals::first_of, crate::specs::Settings::limit_refusals, crate::specs::Settings::lengths_of))]
+pub fn limits(config: VadConfig) -> Result<(), Refusal>
+    ensures { result ≡ first_of (limit_refusals config) }
 {
     let worked_out = lengths_of(config);
     if FRAME_MOST < worked_out.frame_length {
-        return 11;
+        return Err(Refusal::FrameLength);
     }
     if WARMUP_MOST < worked_out.warmup_frames {
-        return 12;
+        return Err(Refusal::Warmup);
     }
-    if 1_000_000_000 < config.speech_padding {
-        return 13;
+    if 1_000_000_000 < config.speech_padding
+        || 10_000 < config.hangover_frames
+        || 10_000 < config.min_speech_frames
+        || !start_allowed(config.stream_start_time)
+    {
+        return Err(Refusal::Limits);
     }
-    if 10_000 < config.hangover_frames {
-        return 13;
-    }
-    if 10_000 < config.min_speech_frames {
-        return 13;
-    }
-    if !start_allowed(config.stream_start_time) {
-        return 13;
-    }
-    0
+    Ok(())
 }

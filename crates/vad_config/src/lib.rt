@@ -4,12 +4,13 @@
 
 mod checks;
 
-ghost use Rattle.std.specs.Prelude.{◌≡◌, max};
+ghost use Rattle.std.specs.Prelude.{◌≡◌};
 ghost use Rattle.vad_config.specs.Domain.{start_in};
 ghost use Rattle.vad_config.specs.Lengths.{frame_length_of, hop_length_of, warmup_frames_of, padding_samples_of, time_of_sample_of};
-ghost use Rattle.vad_config.specs.Settings.{lengths_of, refusal_of};
+ghost use Rattle.vad_config.specs.Settings.{lengths_of, outcome_of};
 
 use ranges::{RECEIVED_MOST, rate_allowed};
+use refusals::Refusal;
 
 const NANOS_PER_SECOND: u64 = 1_000_000_000;
 
@@ -33,7 +34,7 @@ pub struct VadConfig {
 }
 
 // What opening works out, in frames and samples.
-#[derive(Clone, Copy)]
+#[derive(Clone, Copy, PartialEq, Eq)]
 pub struct Lengths {
     pub frame_length: usize,
     pub hop_length: usize,
@@ -41,22 +42,17 @@ pub struct Lengths {
     pub padding_samples: usize,
 }
 
-// 0, or the number of the first refusal that holds. Later checks rest on earlier ones: a frame has a length only where 1 and 2 passed.
-pub fn validate(config: VadConfig) -> u32
-    ensures { result ≡ refusal_of config }
+// The first refusal that holds. Later checks rest on earlier ones: a frame has a length only where 1 and 2 passed.
+pub fn validate(config: VadConfig) -> Result<(), Refusal>
+    ensures { result ≡ outcome_of config }
 {
-    let framing = checks::framing(config);
-    if framing != 0 {
-        return framing;
-    }
-    let levels = checks::levels(config);
-    if levels != 0 {
-        return levels;
-    }
+    checks::framing(config)?;
+    checks::levels(config)?;
     checks::limits(config)
 }
 
 // For any settings: where they are refused, the numbers are still those of the four functions below.
+#[tactic(auto, unfolding(crate::specs::Settings::lengths_of, crate::specs::Settings::frame_of, crate::specs::Settings::hop_of, crate::specs::Settings::warmup_of, crate::specs::Settings::padding_of))]
 pub fn lengths_of(config: VadConfig) -> Lengths
     ensures { result ≡ lengths_of config }
 {
@@ -73,36 +69,37 @@ pub fn lengths_of(config: VadConfig) -> Lengths
 }
 
 // To the nearest sample. Where 1 or 2 refuses there is no length, and the product could pass 64 bits.
+#[tactic(auto, using(crate::proofs::Ranges::frame_fits), unfolding(crate::specs::Lengths::frame_length_of, crate::specs::Lengths::frame_samples))]
 pub fn frame_length_samples(sample_rate: u32, frame_duration: u64) -> usize
     ensures { result ≡ frame_length_of sample_rate frame_duration }
 {
-    if !rate_allowed(sample_rate) {
-        return 0;
-    }
-    if !checks::duration_allowed(frame_duration) {
+    if !rate_allowed(sample_rate) || !checks::duration_allowed(frame_duration) {
         return 0;
     }
     let samples = (frame_duration * sample_rate as u64 + NANOS_PER_SECOND / 2) / NANOS_PER_SECOND;
-    at_least_one(samples) as usize
+    samples.max(1) as usize
 }
 
 // At most the frame's length, for any overlap in [0,1).
+#[tactic(auto, unfolding(crate::specs::Lengths::hop_length_of))]
 pub fn hop_length_samples(frame_length: usize, frame_overlap: f32) -> usize
     ensures { result ≡ hop_length_of frame_length frame_overlap }
 {
     let length = float::whole::nearest(frame_length as u64);
-    at_least_one(float::whole::round_f32(length * (1.0 - frame_overlap))) as usize
+    float::whole::round_f32(length * (1.0 - frame_overlap)).max(1) as usize
 }
 
 // How many hops reach 0.3 seconds.
+#[tactic(auto, unfolding(crate::specs::Lengths::warmup_frames_of))]
 pub fn warmup_frames(hop_length: usize, sample_rate: u32) -> usize
     ensures { result ≡ warmup_frames_of hop_length sample_rate }
 {
     let hop_secs = std::num::nearest_u64_to_f64(hop_length as u64) / sample_rate as f64;
-    at_least_one(float::whole::ceil_f64(0.3 / hop_secs)) as usize
+    float::whole::ceil_f64(0.3 / hop_secs).max(1) as usize
 }
 
 // The seconds are a sum in f64, as Rust's `as_secs_f64` has them.
+#[tactic(auto, unfolding(crate::specs::Lengths::padding_samples_of, crate::specs::Lengths::seconds_of))]
 pub fn padding_samples(speech_padding: u64, sample_rate: u32) -> usize
     ensures { result ≡ padding_samples_of speech_padding sample_rate }
 {
@@ -113,6 +110,7 @@ pub fn padding_samples(speech_padding: u64, sample_rate: u32) -> usize
 }
 
 // 13's part that a reset asks again.
+#[tactic(auto, unfolding(crate::specs::Domain::start_in))]
 pub fn start_allowed(stream_start_time: u64) -> bool
     ensures { result ≡ start_in stream_start_time }
 {
@@ -120,28 +118,14 @@ pub fn start_allowed(stream_start_time: u64) -> bool
 }
 
 // Whole seconds and the rest apart, since 10^9 times the samples can pass 64 bits. There is no time outside the domain.
+#[tactic(auto, using(crate::proofs::Ranges::times), unfolding(crate::specs::Lengths::time_of_sample_of, crate::specs::Lengths::time_of, crate::specs::Domain::received_in))]
 pub fn time_of_sample(stream_start_time: u64, sample_rate: u32, sample: u64) -> u64
     ensures { result ≡ time_of_sample_of stream_start_time sample_rate sample }
 {
-    if !rate_allowed(sample_rate) {
-        return 0;
-    }
-    if !start_allowed(stream_start_time) {
-        return 0;
-    }
-    if RECEIVED_MOST < sample {
+    if !rate_allowed(sample_rate) || !start_allowed(stream_start_time) || RECEIVED_MOST < sample {
         return 0;
     }
     let rate = sample_rate as u64;
     let rest = (sample % rate * NANOS_PER_SECOND + rate / 2) / rate;
     stream_start_time + sample / rate * NANOS_PER_SECOND + rest
-}
-
-fn at_least_one(n: u64) -> u64
-    ensures { result ≡ max 1 n }
-{
-    if n < 1 {
-        return 1;
-    }
-    n
 }

@@ -1,4 +1,5 @@
 -- What holds of every state of a run: more than document 01's list, which a call need not keep by itself. Assumes nothing.
+use Rattle.std.specs.Prelude.{None}
 use mathlib.Core.Path.{◌≡◌, refl, sym, ap, ◌∙◌, subst}
 use mathlib.Core.Bool.{Bool, true, false, not, ◌&&◌, cond, true≢false}
 use mathlib.Core.List.{List, []}
@@ -32,7 +33,6 @@ use Rattle.vad_segments.specs.Loudness.{seed_of}
 use Rattle.vad_segments.specs.Judging.{floored_to, frames_at, call_track, ended_of, track_after}
 use Rattle.vad_segments.specs.Positions.{holds_of}
 use Rattle.vad_segments.proofs.Rooms.{FrameWithin}
-use Rattle.vad_segments.specs.declared.ActiveSegment.TheVariants.{Closed}
 use Rattle.vad_segments.specs.declared.Track.{Track}
 use Rattle.lists.proofs.Tests.{either}
 use Rattle.vad_segments.proofs.Ordered.{TrackOrdered, later_limit, call_ordered, call_rows_talk, frames_start, frames_energies, frames_length, frames_within as frames-inside}
@@ -56,7 +56,7 @@ pub record Holding (d : VadDetector) : Type 0 where
   pub start : d.kept.desk.held * d.kept.rules.lengths.hop_length ≡ d.kept.stream.carry_start
   pub count : length (held_of d) ≡ d.kept.desk.held
   pub energies : Every EnergyIn (held_of d)
-  pub closed : d.kept.desk.track.active_segment ≡ Closed
+  pub closed : d.kept.desk.track.active_segment ≡ None
   -- 01's list lacks this: the last frame held ends in the sound received, so its end is never cut there
   pub whole : 1 ≤ d.kept.desk.held → d.kept.rules.lengths.frame_length ≤ d.kept.stream.carry_len + d.kept.rules.lengths.hop_length
 

@@ -1,4 +1,6 @@
 -- From an accepted opening every state is sound: refusal 19 never comes in a run of calls. Assumes nothing.
+use Rattle.vad_segments.specs.declared.ActiveSegmentState.{ActiveSegmentState}
+use Rattle.std.specs.Prelude.{None, Option, Some}
 use mathlib.Core.Path.{◌≡◌, refl, sym, ap, ◌∙◌, subst}
 use mathlib.Core.Logic.{◌⊎◌, inl, inr, ⊎_elim}
 use mathlib.Core.Bool.{Bool, true, false, not, ◌&&◌, ◌||◌, cond, true≢false}
@@ -6,8 +8,8 @@ use mathlib.Core.List.{List, [], ◌∷◌, ◌++◌}
 use Prim.Native.Nat.{ℕ, ◌+◌, ◌*◌, ◌≤◌}
 use native.Mathlib.Nat.{zero-mul}
 use native.Mathlib.Omega.{arith}
-use borrow.Author.Tests.{eqb-true, eqb-false, le-ltb, ne_eqb}
-use lib.Dec.{T, lit<, lit≤, eqb, ltb}
+use borrow.Author.Tests.{le-ltb}
+use lib.Dec.{T, lit<, lit≤, ltb}
 use lib.ListN.{length}
 use lib.Ieee.{Float, nan, inf, fin, of_bits, up, down, le, lt, neg}
 use lib.Ieee.Scale.{finite}
@@ -21,29 +23,28 @@ use Rattle.ranges.proofs.Laws.{within_all, clean_mags}
 use Rattle.float.proofs.Bounds.{Mag, le_of_mag}
 use Rattle.float.specs.Numbers.{zero32}
 use Rattle.vad_config.specs.Domain.{start_in}
-use Rattle.refusals.specs.Refusals.{Case, bare, first_of}
-use Rattle.refusals.proofs.First.{without, never, skip, last_case, number_of_lem}
-use Rattle.lists.proofs.Tests.{either}
-use Rattle.vad_config.specs.Settings.{framing_refusals, level_refusals, limit_refusals, refusal_of, lengths_of, frame_of, hop_of, warmup_of, padding_of}
+use Rattle.std.specs.Prelude.{Result, Ok, Err, ⊤}
+use Rattle.refusals.specs.Refusals.{Case, refusing, first_of, number_in, if_passed}
+use Rattle.refusals.specs.declared.Refusal.TheVariants as why
+use Rattle.refusals.proofs.First.{without, never, skip, last_case, none_refused, number_some}
+use Rattle.vad_config.specs.Settings.{framing_refusals, level_refusals, limit_refusals, refusal_of, lengths_of, frame_of, hop_of, warmup_of, padding_of, outcome_of}
 use Rattle.vad_config.specs.declared.VadConfig.{VadConfig}
 use Rattle.vad_config.specs.declared.Lengths.{Lengths}
 use Rattle.vad_config.proofs.Laws.{accepted, lengths_are, frame_low, warmup_low}
 use Rattle.vad_segments.specs.Setters.{fresh_track}
 use Rattle.vad_segments.specs.declared.Rules.{Rules}
-use Rattle.vad_segments.specs.declared.ActiveSegment.{ActiveSegment}
-use Rattle.vad_segments.specs.declared.ActiveSegment.TheVariants.{Closed, Open}
 use Rattle.vad_row.specs.declared.Row.{Row}
 use Rattle.vad_segments.proofs.Ordered.{ActiveOrdered}
 use Rattle.vad_segments.proofs.Counts.{ActiveCounted, count_in}
 use Rattle.vad_segments.proofs.Floor.{FloorRules, ActiveHeld, floor_rules, floor_is_finite, least_held, energy_in, total_in}
 use Rattle.ranges.specs.Sizes.{frame_most, block_most, received_most}
 use Rattle.vad_state.specs.State.{loudest32, total32, window_of, carried_of, held_of, weights_in, settings_sound, sound_of}
-use Rattle.vad_detector.specs.Opening.{open_refusal, rules_of, fresh_of, zero_rules, nothing_open, open_of, Handed, restarted_of, reset_to, reset_of}
+use Rattle.vad_detector.specs.Opening.{open_refusal, rules_of, fresh_of, zero_rules, nothing_open, open_of, Handed, restarted_of, reset_to, reset_of, open_verdict}
 use Rattle.vad_call.specs.Calls.{too_many, rows_due, refused_by, accepted_of, concluded_of, ran_of, measured_of, stream_after, due_of, holding_of, carry_after, held_after, verdict_of}
 use Rattle.vad_call.specs.Checks.{block_refusals, check_of}
 use Rattle.vad_detector.specs.Entries.{detect_of, flush_of}
 use Rattle.vad_detector.specs.Readings.{read_of, undecided_read, analyzed_read, rows_read, talk_read, floor_read, segment_read}
-use Rattle.vad_detector.specs.Run.{Call, Detect, Flush, Reset, next, number_of, play}
+use Rattle.vad_detector.specs.Run.{Call, Detect, Flush, Reset, next, number_of, play, none_counted}
 use Rattle.vad_state.specs.declared.VadDetector.{VadDetector}
 use Rattle.vad_call.specs.declared.Detected.{Detected}
 use Rattle.refusals.specs.declared.Refusal.{Refusal}
@@ -76,9 +77,9 @@ not_under (fin false m e) (fin true n i) p f l = absurd (above_of_le (fin false 
 not_under (fin false m e) (fin false n i) p f l =
     le-ltb (n * up i * down e) (m * up e * down i) (le→cross (fin false m e) (fin false n i) p (above_of_le (fin false m e) (fin false n i) p l) l)
 
-active_in : (hangover received last start : ℕ) (a : ActiveSegment) → ActiveOrdered last received a → ActiveCounted hangover a → ActiveHeld a → count_in a ≤ start → start ≤ received → ActiveIn hangover received last a
-active_in hangover received last start Closed o c e n l = tt
-active_in hangover received last start (Open s) o c e n l = record {
+active_in : (hangover received last start : ℕ) (a : Option ActiveSegmentState) → ActiveOrdered last received a → ActiveCounted hangover a → ActiveHeld a → count_in a ≤ start → start ≤ received → ActiveIn hangover received last a
+active_in hangover received last start None o c e n l = tt
+active_in hangover received last start (Some s) o c e n l = record {
   after = o.0;
   start = o.1;
   loud_end = o.2;
@@ -174,11 +175,11 @@ fresh_running r window z l w h f =
       held = λ e. fresh_holding r window (omega (arith, warmup, warmup_low c z));
     }
 
-pub opened_is : (c : VadConfig) (window : List Float) (rise : Float) → (open_of c window rise).refusal ≡ 0 → (open_of c window rise).detector ≡ fresh_of (rules_of c rise) window
-unfolding open_of
-opened_is c window rise z = ap (λ (n : ℕ). cond (eqb n 0) (fresh_of (rules_of c rise) window) nothing_open) z
+pub opened_is : (c : VadConfig) (window : List Float) (rise : Float) → open_refusal c window rise ≡ 0 → (open_of c window rise).detector ≡ fresh_of (rules_of c rise) window
+unfolding open_of open_refusal
+opened_is c window rise z = ap (λ (v : Result ⊤ Refusal). if_passed {A = VadDetector} v (fresh_of (rules_of c rise) window) (λ r. nothing_open)) (none_refused _ z)
 
-pub open_running : (c : VadConfig) (window : List Float) (rise : Float) → (open_of c window rise).refusal ≡ 0 → Handed c rise → Running (open_of c window rise).detector
+pub open_running : (c : VadConfig) (window : List Float) (rise : Float) → open_refusal c window rise ≡ 0 → Handed c rise → Running (open_of c window rise).detector
 unfolding open_of rules_of
 open_running c window rise z f =
     let p = open_parts c window rise z in
@@ -195,12 +196,12 @@ later_start true b e s h = absurd (true≢false e)
 later_start false b e s h = rw h
 
 restarted_settings : (c : VadConfig) (start : ℕ) → start_in start ≡ true → refusal_of c ≡ 0 → refusal_of (restarted_of c start) ≡ 0
-unfolding refusal_of framing_refusals level_refusals limit_refusals restarted_of frame_of hop_of warmup_of
+unfolding refusal_of outcome_of framing_refusals level_refusals limit_refusals restarted_of frame_of hop_of warmup_of
 restarted_settings c start s z =
     let most = ltb 1000000000 c.speech_padding || ltb 10000 c.hangover_frames || ltb 10000 c.min_speech_frames in
-    let tests = framing_refusals c ++ (level_refusals c ++ (bare 11 (ltb 2048 (frame_of c)) ∷ bare 12 (ltb 300 (warmup_of c)) ∷ [])) in
-    let l = last_case tests (bare 13 (most || not (start_in c.stream_start_time))) refl z in
-    number_of_lem (sym (l.1 (bare 13 (most || not (start_in start))) (later_start most (start_in c.stream_start_time) l.0 (start_in start) s)))
+    let tests = framing_refusals c ++ (level_refusals c ++ (refusing why.FrameLength (ltb 2048 (frame_of c)) ∷ refusing why.Warmup (ltb 300 (warmup_of c)) ∷ [])) in
+    let l = last_case tests (refusing why.Limits (most || not (start_in c.stream_start_time))) (none_refused _ z) in
+    ap (λ (v : Result ⊤ Refusal). number_in v) (l.1 (refusing why.Limits (most || not (start_in start))) (later_start most (start_in c.stream_start_time) l.0 (start_in start) s))
 
 restarted_lengths : (c : VadConfig) (start : ℕ) → lengths_of (restarted_of c start) ≡ lengths_of c
 unfolding lengths_of restarted_of frame_of hop_of warmup_of padding_of
@@ -225,12 +226,12 @@ pub record Clean (d : VadDetector) (xs : List Float) : Type 0 where
 abbrev pub Ends : (premise : Type 0) → ℕ → VadDetector → VadDetector → VadDetector → Type 0
 Ends premise number given new after = (premise × (number ≡ 0) × (after ≡ new)) ⊎ ((number ≡ 0 → ⊥) × (after ≡ given))
 
-pub check_clean : (d : VadDetector) (xs : List Float) → (check_of d xs).number ≡ 0 → Clean d xs
+pub check_clean : (d : VadDetector) (xs : List Float) → check_of d xs ≡ Ok tt → Clean d xs
 check_clean d xs h = let c = checked d xs h in record { sound = c.sound; short = c.short; samples = clean_mags xs c.clean; room = c.fits }
 
 -- 18 or 0
 ran_ends : (finish : Bool) (d : VadDetector) (xs : List Float) (room : ℕ)
-    → (((ran_of finish d xs room).refusal.number ≡ 0) × ((ran_of finish d xs room).detector ≡ ran_to finish d xs)) ⊎ (((ran_of finish d xs room).refusal.number ≡ 18) × ((ran_of finish d xs room).detector ≡ d))
+    → ((number_in (ran_of finish d xs room).outcome ≡ 0) × ((ran_of finish d xs room).detector ≡ ran_to finish d xs)) ⊎ ((number_in (ran_of finish d xs room).outcome ≡ 18) × ((ran_of finish d xs room).detector ≡ d))
 unfolding ran_of concluded_of refused_by accepted_of stream_after
 ran_ends finish d xs room = go (too_many rows room)
   where
@@ -238,54 +239,60 @@ ran_ends finish d xs room = go (too_many rows room)
     rows = rows_due finish d.kept (d.kept.stream.processed_samples + length xs) (due_of finish d.kept (measured_of finish d xs))
 
     stuck : Detected
-    stuck = refused_by 18 (length rows) d
+    stuck = refused_by (why.Rows (length rows)) d
 
     done : Detected
     done = accepted_of d (stream_after finish d xs) (carry_after finish d xs) (holding_of finish d.kept (measured_of finish d xs)) (held_after finish d.kept (measured_of finish d xs)) (verdict_of finish d.kept (d.kept.stream.processed_samples + length xs) (due_of finish d.kept (measured_of finish d xs))) (length rows)
 
-    go : (b : Bool) → (((cond b stuck done).refusal.number ≡ 0) × ((cond b stuck done).detector ≡ ran_to finish d xs)) ⊎ (((cond b stuck done).refusal.number ≡ 18) × ((cond b stuck done).detector ≡ d))
+    go : (b : Bool) → ((number_in (cond b stuck done).outcome ≡ 0) × ((cond b stuck done).detector ≡ ran_to finish d xs)) ⊎ ((number_in (cond b stuck done).outcome ≡ 18) × ((cond b stuck done).detector ≡ d))
     go true = inr (refl, refl)
     go false = inl (refl, refl)
 
-pub detect_ends : (d : VadDetector) (xs : List Float) (room : ℕ) → Ends (Clean d xs) (detect_of d xs room).refusal.number d (ran_to false d xs) (detect_of d xs room).detector
+pub detect_ends : (d : VadDetector) (xs : List Float) (room : ℕ) → Ends (Clean d xs) (number_in (detect_of d xs room).outcome) d (ran_to false d xs) (detect_of d xs room).detector
 unfolding detect_of refused_by
-detect_ends d xs room = go (eqb n 0) (eqb-true n 0) (eqb-false n 0)
+detect_ends d xs room = go (check_of d xs) refl
   where
-    n : ℕ
-    n = (check_of d xs).number
-
     ran : Detected
     ran = ran_of false d xs room
 
-    stuck : Detected
-    stuck = refused_by n (check_of d xs).carries d
+    then : Result ⊤ Refusal → Detected
+    then v = if_passed v ran (λ r. refused_by r d)
 
-    go : (b : Bool) → (b ≡ true → n ≡ 0) → (b ≡ false → n ≡ 0 → ⊥) → Ends (Clean d xs) (cond b ran stuck).refusal.number d (ran_to false d xs) (cond b ran stuck).detector
-    go true f g = ⊎_elim (λ k. inl (check_clean d xs (f refl), k.0, k.1)) (λ k. inr (λ z. absurd (omega (arith, k.0, z)), k.1)) (ran_ends false d xs room)
-    go false f g = inr (g refl, refl)
+    go : (v : Result ⊤ Refusal) → check_of d xs ≡ v → Ends (Clean d xs) (number_in (then v).outcome) d (ran_to false d xs) (then v).detector
+    go (Ok x) e = ⊎_elim (λ k. inl (check_clean d xs e, k.0, k.1)) (λ k. inr (λ z. absurd (omega (arith, k.0, z)), k.1)) (ran_ends false d xs room)
+    go (Err r) e = inr (number_some r, refl)
 
-pub flush_ends : (d : VadDetector) (room : ℕ) → Ends (sound_of d ≡ true) (flush_of d room).refusal.number d (ran_to true d []) (flush_of d room).detector
+pub flush_ends : (d : VadDetector) (room : ℕ) → Ends (sound_of d ≡ true) (number_in (flush_of d room).outcome) d (ran_to true d []) (flush_of d room).detector
 unfolding flush_of refused_by
 flush_ends d room = go (sound_of d) refl
   where
     ran : Detected
     ran = ran_of true d [] room
 
-    go : (b : Bool) → sound_of d ≡ b → Ends (sound_of d ≡ true) (cond b ran (refused_by 19 0 d)).refusal.number d (ran_to true d []) (cond b ran (refused_by 19 0 d)).detector
+    go : (b : Bool) → sound_of d ≡ b → Ends (sound_of d ≡ true) (number_in (cond b ran (refused_by why.State d)).outcome) d (ran_to true d []) (cond b ran (refused_by why.State d)).detector
     go true e = ⊎_elim (λ k. inl (e, k.0, k.1)) (λ k. inr (λ z. absurd (omega (arith, k.0, z)), k.1)) (ran_ends true d [] room)
     go false e = inr (λ z. absurd (omega arith), refl)
 
-pub reset_ends : (d : VadDetector) (start : ℕ) → Ends ((sound_of d ≡ true) × (start_in start ≡ true)) (reset_of d start).refusal d (reset_to d start) (reset_of d start).detector
+pub reset_ends : (d : VadDetector) (start : ℕ) → Ends ((sound_of d ≡ true) × (start_in start ≡ true)) (number_in (reset_of d start).outcome) d (reset_to d start) (reset_of d start).detector
 unfolding reset_of first_of
 reset_ends d start = go (sound_of d) (start_in start) refl refl
   where
-    number : Bool → Bool → ℕ
-    number a b = (first_of (bare 19 (not a) ∷ bare 13 (not b) ∷ [])).number
+    verdict : Bool → Bool → Result ⊤ Refusal
+    verdict a b = first_of (refusing why.State (not a) ∷ refusing why.Limits (not b) ∷ [])
 
-    go : (a b : Bool) → sound_of d ≡ a → start_in start ≡ b → Ends ((sound_of d ≡ true) × (start_in start ≡ true)) (number a b) d (reset_to d start) (cond (eqb (number a b) 0) (reset_to d start) d)
+    go : (a b : Bool) → sound_of d ≡ a → start_in start ≡ b → Ends ((sound_of d ≡ true) × (start_in start ≡ true)) (number_in (verdict a b)) d (reset_to d start) (if_passed {A = VadDetector} (verdict a b) (reset_to d start) (λ r. d))
     go true true e f = inl ((e, f), refl, refl)
     go true false e f = inr (λ z. absurd (omega arith), refl)
     go false b e f = inr (λ z. absurd (omega arith), refl)
+
+-- in the form of a call's answer it has the same number
+none_counted_number : (v : Result ⊤ Refusal) → number_in (none_counted v) ≡ number_in v
+none_counted_number (Ok x) = refl
+none_counted_number (Err r) = refl
+
+pub reset_number : (d : VadDetector) (start : ℕ) → number_of d (Reset start) ≡ number_in (reset_of d start).outcome
+unfolding number_of
+reset_number d start = none_counted_number (reset_of d start).outcome
 
 -- ---- the calls keep it
 pub detect_running : (d : VadDetector) (xs : List Float) (room : ℕ) → Running d → Running (detect_of d xs room).detector
@@ -309,35 +316,36 @@ play_running [] d r = r
 play_running (k ∷ ks) d r = play_running ks (next d k) (next_running d k r)
 
 -- from an accepted opening, over any calls, refused ones among them
-pub run_running : (c : VadConfig) (window : List Float) (rise : Float) (ks : List Call) → (open_of c window rise).refusal ≡ 0 → Handed c rise → Running (play (open_of c window rise).detector ks)
+pub run_running : (c : VadConfig) (window : List Float) (rise : Float) (ks : List Call) → open_refusal c window rise ≡ 0 → Handed c rise → Running (play (open_of c window rise).detector ks)
 run_running c window rise ks z f = play_running ks (open_of c window rise).detector (open_running c window rise z f)
 
 -- every state is sound
-pub run_sound : (c : VadConfig) (window : List Float) (rise : Float) (ks : List Call) → (open_of c window rise).refusal ≡ 0 → Handed c rise → sound_of (play (open_of c window rise).detector ks) ≡ true
+pub run_sound : (c : VadConfig) (window : List Float) (rise : Float) (ks : List Call) → open_refusal c window rise ≡ 0 → Handed c rise → sound_of (play (open_of c window rise).detector ks) ≡ true
 run_sound c window rise ks z f = running_sound (play (open_of c window rise).detector ks) (run_running c window rise ks z f)
 
 -- ---- 19
 
 -- a call that ran is refused by 18 or not at all
-ran_taken : (finish : Bool) (d : VadDetector) (xs : List Float) (room : ℕ) → (ran_of finish d xs room).refusal.number ≡ 19 → ⊥
+ran_taken : (finish : Bool) (d : VadDetector) (xs : List Float) (room : ℕ) → number_in (ran_of finish d xs room).outcome ≡ 19 → ⊥
 ran_taken finish d xs room e = ⊎_elim (λ k. absurd (omega (arith, k.0, e))) (λ k. absurd (omega (arith, k.0, e))) (ran_ends finish d xs room)
 
 -- where the state is sound, what is left of a chain has no 19
-rest_taken : (d : VadDetector) (cs : List Case) → sound_of d ≡ true → without 19 cs ≡ true → (first_of (bare 19 (not (sound_of d)) ∷ cs)).number ≡ 19 → ⊥
-rest_taken d cs h w e = never 19 cs w (λ z. absurd (omega arith)) (sym (ap (λ (r : Refusal). r.number) (skip (bare 19 (not (sound_of d))) cs (ap not h))) ∙ e)
+rest_taken : (d : VadDetector) (cs : List Case) → sound_of d ≡ true → without 19 cs ≡ true → number_in (first_of (refusing why.State (not (sound_of d)) ∷ cs)) ≡ 19 → ⊥
+rest_taken d cs h w e = never 19 cs w (λ z. absurd (omega arith)) (sym (ap (λ (v : Result ⊤ Refusal). number_in v) (skip (refusing why.State (not (sound_of d))) cs (ap not h))) ∙ e)
 
 -- a sound state is not refused by 19
 pub sound_taken : (d : VadDetector) (k : Call) → sound_of d ≡ true → number_of d k ≡ 19 → ⊥
 unfolding number_of detect_of check_of flush_of reset_of refused_by
-sound_taken d (Detect xs room) h =
-    let r = check_of d xs in
-    either (λ (p : Detected). p.refusal.number ≡ 19 → ⊥) (eqb r.number 0) (ran_of false d xs room) (refused_by r.number r.carries d) (ran_taken false d xs room)
-    (rest_taken d (block_refusals d.kept.stream.processed_samples xs) h refl)
+sound_taken d (Detect xs room) h = go (check_of d xs) (rest_taken d (block_refusals d.kept.stream.processed_samples xs) h refl)
+  where
+    go : (v : Result ⊤ Refusal) → (number_in v ≡ 19 → ⊥) → number_in (if_passed v (ran_of false d xs room) (λ r. refused_by r d)).outcome ≡ 19 → ⊥
+    go (Ok x) f = ran_taken false d xs room
+    go (Err r) f = f
 sound_taken d (Flush room) h = rw (number_of, h) (ran_taken true d [] room)
-sound_taken d (Reset start) h = rest_taken d (bare 13 (not (start_in start)) ∷ []) h refl
+sound_taken d (Reset start) h = λ e. rest_taken d (refusing why.Limits (not (start_in start)) ∷ []) h refl (sym (reset_number d start) ∙ e)
 
 -- no call of a run is refused by 19
-pub never_malformed : (c : VadConfig) (window : List Float) (rise : Float) (ks : List Call) (k : Call) → (open_of c window rise).refusal ≡ 0 → Handed c rise → number_of (play (open_of c window rise).detector ks) k ≡ 19 → ⊥
+pub never_malformed : (c : VadConfig) (window : List Float) (rise : Float) (ks : List Call) (k : Call) → open_refusal c window rise ≡ 0 → Handed c rise → number_of (play (open_of c window rise).detector ks) k ≡ 19 → ⊥
 never_malformed c window rise ks k z f = sound_taken (play (open_of c window rise).detector ks) k (run_sound c window rise ks z f)
 
 -- every call on a malformed state is
@@ -349,7 +357,7 @@ malformed_refused d (Reset start) h = rw (number_of, h)
 
 -- 'A refused opening returns an all-zero state. Later calls on it .. are refused by 19'
 pub nothing_malformed : sound_of nothing_open ≡ false
-unfolding sound_of nothing_open settings_sound zero_rules refusal_of first_of framing_refusals rate_in
+unfolding sound_of nothing_open settings_sound zero_rules refusal_of outcome_of first_of framing_refusals rate_in
 nothing_malformed = refl
 
 pub nothing_refused : (k : Call) → number_of nothing_open k ≡ 19
@@ -367,17 +375,21 @@ unfolding play
 malformed_played [] d h = refl
 malformed_played (k ∷ ks) d h = ap (λ (n : VadDetector). play n ks) (malformed_stays d k h) ∙ malformed_played ks d h
 
-refused_is : (c : VadConfig) (window : List Float) (rise : Float) → ((open_of c window rise).refusal ≡ 0 → ⊥) → (open_of c window rise).detector ≡ nothing_open
-unfolding open_of
-refused_is c window rise h = ap (λ (b : Bool). cond b (fresh_of (rules_of c rise) window) nothing_open) (ne_eqb (open_refusal c window rise) 0 h)
+refused_is : (c : VadConfig) (window : List Float) (rise : Float) → (open_refusal c window rise ≡ 0 → ⊥) → (open_of c window rise).detector ≡ nothing_open
+unfolding open_of open_refusal
+refused_is c window rise h = go (open_verdict c window rise) h
+  where
+    go : (v : Result ⊤ Refusal) → (number_in v ≡ 0 → ⊥) → if_passed {A = VadDetector} v (fresh_of (rules_of c rise) window) (λ r. nothing_open) ≡ nothing_open
+    go (Ok x) g = absurd (g refl)
+    go (Err r) g = refl
 
 -- .. however many come after a refused opening
-pub refused_run : (c : VadConfig) (window : List Float) (rise : Float) (ks : List Call) (k : Call) → ((open_of c window rise).refusal ≡ 0 → ⊥) → number_of (play (open_of c window rise).detector ks) k ≡ 19
+pub refused_run : (c : VadConfig) (window : List Float) (rise : Float) (ks : List Call) (k : Call) → (open_refusal c window rise ≡ 0 → ⊥) → number_of (play (open_of c window rise).detector ks) k ≡ 19
 refused_run c window rise ks k h =
     ap (λ (d : VadDetector). number_of d k) (ap (λ (d : VadDetector). play d ks) (refused_is c window rise h) ∙ malformed_played ks nothing_open nothing_malformed) ∙ nothing_refused k
 
 -- 'and readings of any malformed state, are refused by 19'
 pub malformed_unread : (d : VadDetector) → sound_of d ≡ false
-    → ((undecided_read d).refusal ≡ 19) × ((analyzed_read d).refusal ≡ 19) × ((rows_read d).refusal ≡ 19) × ((talk_read d).refusal ≡ 19) × ((floor_read d).refusal ≡ 19) × ((segment_read d).refusal ≡ 19)
+    → (number_in (undecided_read d) ≡ 19) × (number_in (analyzed_read d) ≡ 19) × (number_in (rows_read d) ≡ 19) × (number_in (talk_read d) ≡ 19) × (number_in (floor_read d) ≡ 19) × (number_in (segment_read d) ≡ 19)
 unfolding undecided_read analyzed_read rows_read talk_read floor_read segment_read read_of
 malformed_unread d h = (rw h, rw h, rw h, rw h, rw h, rw h)

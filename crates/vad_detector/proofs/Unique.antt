@@ -3,6 +3,8 @@ use mathlib.Core.Path.{◌≡◌}
 use mathlib.Core.List.{List}
 use Prim.Native.Nat.{ℕ}
 use lib.Ieee.{Float}
+use Rattle.std.specs.Prelude.{Option, Result}
+use Rattle.refusals.specs.declared.Refusal.{Refusal}
 use Rattle.float.proofs.Unique.{only}
 use Rattle.vad_config.specs.declared.VadConfig.{VadConfig}
 use Rattle.vad_state.specs.declared.VadDetector.{VadDetector}
@@ -11,9 +13,6 @@ use Rattle.vad_detector.specs.Opening.{open_of, reset_of}
 use Rattle.vad_detector.specs.Entries.{detect_of, detect_rows, flush_of, flush_rows}
 use Rattle.vad_detector.specs.Readings.{undecided_read, analyzed_read, rows_read, talk_read, floor_read, segment_read}
 use Rattle.vad_detector.specs.declared.Opened.{Opened}
-use Rattle.vad_detector.specs.declared.Reading.{Reading}
-use Rattle.vad_detector.specs.declared.FloorReading.{FloorReading}
-use Rattle.vad_detector.specs.declared.SegmentReading.{SegmentReading}
 
 pub open_unique : (c : VadConfig) (window : List Float) (rise : Float) (r q : Opened) → r ≡ open_of c window rise → q ≡ open_of c window rise → r ≡ q
 open_unique c window rise r q = only
@@ -33,20 +32,20 @@ flush_unique d room r q = only
 pub flush_rows_unique : (d : VadDetector) (out r q : List ℕ) → r ≡ flush_rows d out → q ≡ flush_rows d out → r ≡ q
 flush_rows_unique d out r q = only
 
-pub undecided_unique : (d : VadDetector) (r q : Reading) → r ≡ undecided_read d → q ≡ undecided_read d → r ≡ q
+pub undecided_unique : (d : VadDetector) (r q : Result ℕ Refusal) → r ≡ undecided_read d → q ≡ undecided_read d → r ≡ q
 undecided_unique d r q = only
 
-pub analyzed_unique : (d : VadDetector) (r q : Reading) → r ≡ analyzed_read d → q ≡ analyzed_read d → r ≡ q
+pub analyzed_unique : (d : VadDetector) (r q : Result ℕ Refusal) → r ≡ analyzed_read d → q ≡ analyzed_read d → r ≡ q
 analyzed_unique d r q = only
 
-pub rows_unique : (d : VadDetector) (r q : Reading) → r ≡ rows_read d → q ≡ rows_read d → r ≡ q
+pub rows_unique : (d : VadDetector) (r q : Result ℕ Refusal) → r ≡ rows_read d → q ≡ rows_read d → r ≡ q
 rows_unique d r q = only
 
-pub talk_unique : (d : VadDetector) (r q : Reading) → r ≡ talk_read d → q ≡ talk_read d → r ≡ q
+pub talk_unique : (d : VadDetector) (r q : Result ℕ Refusal) → r ≡ talk_read d → q ≡ talk_read d → r ≡ q
 talk_unique d r q = only
 
-pub floor_unique : (d : VadDetector) (r q : FloorReading) → r ≡ floor_read d → q ≡ floor_read d → r ≡ q
+pub floor_unique : (d : VadDetector) (r q : Result Float Refusal) → r ≡ floor_read d → q ≡ floor_read d → r ≡ q
 floor_unique d r q = only
 
-pub segment_unique : (d : VadDetector) (r q : SegmentReading) → r ≡ segment_read d → q ≡ segment_read d → r ≡ q
+pub segment_unique : (d : VadDetector) (r q : Result (Option ℕ) Refusal) → r ≡ segment_read d → q ≡ segment_read d → r ≡ q
 segment_unique d r q = only

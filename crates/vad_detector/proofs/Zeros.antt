@@ -13,7 +13,7 @@ use Rattle.vad_segments.specs.declared.Rules.{Rules}
 use Rattle.ranges.specs.Sizes.{frame_most, warmup_most}
 use Rattle.vad_state.specs.State.{window_of, carried_of, held_of, sound_of}
 use Rattle.vad_state.specs.Arrays.{filled_of}
-use Rattle.vad_detector.specs.Opening.{rules_of, fresh_of, open_of, Handed, reset_to}
+use Rattle.vad_detector.specs.Opening.{rules_of, fresh_of, open_of, Handed, reset_to, open_refusal}
 use Rattle.vad_call.specs.Calls.{refused_by, measured_of, carry_after, stream_after, holding_of, held_after, due_of, verdict_of, desk_after, joined_of, advanced_of}
 use Rattle.vad_detector.specs.Run.{Call, Detect, Flush, Reset, next, number_of, play}
 use Rattle.vad_state.specs.declared.VadDetector.{VadDetector}
@@ -22,7 +22,7 @@ use Rattle.vad_state.specs.declared.Desk.{Desk}
 use Rattle.vad_state.proofs.Parts.{parts, frame_high}
 use Rattle.vad_detector.proofs.Answers.{open_parts}
 use Rattle.vad_detector.proofs.Running.{Running, ran_to, advanced_window, advanced_carry, advanced_held}
-use Rattle.vad_detector.proofs.Runs.{opened_is, fresh_window, detect_ends, flush_ends, reset_ends, open_running, next_running}
+use Rattle.vad_detector.proofs.Runs.{opened_is, fresh_window, detect_ends, flush_ends, reset_ends, open_running, next_running, reset_number}
 
 pub record ZerosPast (d : VadDetector) : Type 0 where
   pub window : d.window ≡ filled_of frame_most (window_of d)
@@ -55,7 +55,7 @@ fresh_zeros : (r : Rules) (window : List Float) → length window ≡ r.lengths.
 unfolding fresh_of carried_of held_of
 fresh_zeros r window e = record { window = ap (filled_of frame_most) (sym (fresh_window r window e)); carry = refl; warmup = refl }
 
-pub open_zeros : (c : VadConfig) (window : List Float) (rise : Float) → (open_of c window rise).refusal ≡ 0 → ZerosPast (open_of c window rise).detector
+pub open_zeros : (c : VadConfig) (window : List Float) (rise : Float) → open_refusal c window rise ≡ 0 → ZerosPast (open_of c window rise).detector
 unfolding open_of rules_of
 open_zeros c window rise z = subst ZerosPast (sym (opened_is c window rise z)) (fresh_zeros (rules_of c rise) window ((open_parts c window rise z).1 ∙ sym (lengths_are c).0))
 
@@ -64,7 +64,7 @@ next_zeros : (d : VadDetector) (k : Call) → (sound_of d ≡ true → length (w
 unfolding next refused_by number_of reset_to
 next_zeros d (Detect xs room) w f = ⊎_elim (λ e. subst ZerosPast (sym e.2) (ran_zeros false d xs (w e.0.sound))) (λ e. subst ZerosPast (sym e.1) (f e.0)) (detect_ends d xs room)
 next_zeros d (Flush room) w f = ⊎_elim (λ e. subst ZerosPast (sym e.2) (ran_zeros true d [] (w e.0))) (λ e. subst ZerosPast (sym e.1) (f e.0)) (flush_ends d room)
-next_zeros d (Reset start) w f = ⊎_elim (λ e. subst ZerosPast (sym e.2) (fresh_zeros _ (window_of d) (w e.0.0))) (λ e. subst ZerosPast (sym e.1) (f e.0)) (reset_ends d start)
+next_zeros d (Reset start) w f = ⊎_elim (λ e. subst ZerosPast (sym e.2) (fresh_zeros _ (window_of d) (w e.0.0))) (λ e. subst ZerosPast (sym e.1) (f (λ z. e.0 (sym (reset_number d start) ∙ z)))) (reset_ends d start)
 
 -- an accepted call on any state whose window is an array of 2,048, as every state's is
 pub zeros_kept : (d : VadDetector) (k : Call) → length d.window ≡ frame_most → number_of d k ≡ 0 → ZerosPast (next d k)
@@ -76,5 +76,5 @@ unfolding play
 play_zeros [] d r h = h
 play_zeros (k ∷ ks) d r h = play_zeros ks (next d k) (next_running d k r) (next_zeros d k (λ s. r.wide) (λ no. h))
 
-pub run_zeros : (c : VadConfig) (window : List Float) (rise : Float) (ks : List Call) → (open_of c window rise).refusal ≡ 0 → Handed c rise → ZerosPast (play (open_of c window rise).detector ks)
+pub run_zeros : (c : VadConfig) (window : List Float) (rise : Float) (ks : List Call) → open_refusal c window rise ≡ 0 → Handed c rise → ZerosPast (play (open_of c window rise).detector ks)
 run_zeros c window rise ks z f = play_zeros ks (open_of c window rise).detector (open_running c window rise z f) (open_zeros c window rise z)

@@ -1,11 +1,14 @@
 -- Opening and reset: document 01's refusals 1 to 14, and a state that has heard nothing.
-use Rattle.std.specs.Prelude.{Bool, true, false, not, ◌&&◌, cond, List, [], ◌∷◌, ℕ, T, eqb, length, Float}
+use Rattle.std.specs.Prelude.{Bool, true, false, not, ◌&&◌, List, [], ◌∷◌, ℕ, T, eqb, length, Float, Result, ⊤}
 use Rattle.std.specs.Float.{binary32}
 use Rattle.std.specs.Float.Ieee.{fits}
 use Rattle.float.specs.Numbers.{zero32}
 use Rattle.vad_config.specs.Domain.{start_in}
-use Rattle.refusals.specs.Refusals.{bare, first_of}
-use Rattle.vad_config.specs.Settings.{frame_of, lengths_of, refusal_of}
+use Rattle.std.specs.Result.{result_and}
+use Rattle.refusals.specs.Refusals.{refusing, first_of, number_in, if_passed}
+use Rattle.refusals.specs.declared.Refusal.{Refusal}
+use Rattle.refusals.specs.declared.Refusal.TheVariants as why
+use Rattle.vad_config.specs.Settings.{frame_of, lengths_of, outcome_of}
 use Rattle.vad_config.specs.Config.{settings_of}
 use Rattle.vad_config.specs.declared.VadConfig.{VadConfig}
 use Rattle.vad_segments.specs.declared.Rules.{Rules}
@@ -21,8 +24,12 @@ unfoldable pub weights_fit : ℕ → List Float → Float → Bool
 weights_fit frame window rise = eqb (length window) frame && weights_in window rise
 
 -- 'Order: opening 1 to 14'
+unfoldable pub open_verdict : VadConfig → List Float → Float → Result ⊤ Refusal
+open_verdict c window rise = result_and (outcome_of c) (first_of (refusing why.Window (not (weights_fit (frame_of c) window rise)) ∷ []))
+
+-- its number, 0 where nothing is refused
 unfoldable pub open_refusal : VadConfig → List Float → Float → ℕ
-open_refusal c window rise = (first_of (bare (refusal_of c) (not (eqb (refusal_of c) 0)) ∷ bare 14 (not (weights_fit (frame_of c) window rise)) ∷ [])).number
+open_refusal c window rise = number_in (open_verdict c window rise)
 
 unfoldable pub rules_of : VadConfig → Float → Rules
 rules_of c rise = record { config = c; lengths = lengths_of c; speech_floor_rise = rise }
@@ -57,8 +64,8 @@ nothing_open = blank_of zero_rules false zero32 []
 
 unfoldable pub open_of : VadConfig → List Float → Float → Opened
 open_of c window rise =
-    let n = open_refusal c window rise in
-    record { refusal = n; detector = cond (eqb n 0) (fresh_of (rules_of c rise) window) nothing_open }
+    let v = open_verdict c window rise in
+    record { outcome = v; detector = if_passed v (fresh_of (rules_of c rise) window) (λ r. nothing_open) }
 
 -- what theorems over runs ask besides acceptance: that these are f32, as every number of that type is; a definition's number could be any
 pub record Handed (c : VadConfig) (rise : Float) : Type 0 where
@@ -84,5 +91,5 @@ reset_to d start =
 -- 'Reset 19, then 13 for the new start'
 unfoldable pub reset_of : VadDetector → ℕ → Opened
 reset_of d start =
-    let n = (first_of (bare 19 (not (sound_of d)) ∷ bare 13 (not (start_in start)) ∷ [])).number in
-    record { refusal = n; detector = cond (eqb n 0) (reset_to d start) d }
+    let v = first_of (refusing why.State (not (sound_of d)) ∷ refusing why.Limits (not (start_in start)) ∷ []) in
+    record { outcome = v; detector = if_passed v (reset_to d start) (λ r. d) }

@@ -1,6 +1,9 @@
 -- A run of calls, refused ones among them.
-use Rattle.std.specs.Prelude.{List, [], ◌∷◌, ℕ, Float}
-use Rattle.vad_call.specs.Calls.{refused_by}
+use Rattle.std.specs.Prelude.{List, [], ◌∷◌, ℕ, Float, Result, Ok, Err, ⊤}
+use Rattle.refusals.specs.Refusals.{number_in}
+use Rattle.refusals.specs.declared.Refusal.{Refusal}
+use Rattle.vad_call.specs.Calls.{no_tally}
+use Rattle.vad_call.specs.declared.Tally.{Tally}
 use Rattle.vad_call.specs.declared.Detected.{Detected}
 use Rattle.vad_detector.specs.Opening.{reset_of}
 use Rattle.vad_detector.specs.Entries.{detect_of, flush_of}
@@ -12,18 +15,23 @@ pub data Call : Type 0 where
   Flush : ℕ → Call
   Reset : ℕ → Call
 
--- what the detector answers to it; to a reset in the form of a call's answer: the number, nothing carried, and a tally of zeros
+-- a reset counts nothing
+abbrev pub none_counted : Result ⊤ Refusal → Result Tally Refusal
+none_counted (Ok x) = Ok no_tally
+none_counted (Err r) = Err r
+
+-- what the detector answers to it; to a reset in the form of a call's answer, with a tally of zeros
 abbrev pub answered : Call → VadDetector → Detected
 answered (Detect xs room) d = detect_of d xs room
 answered (Flush room) d = flush_of d room
-answered (Reset start) d = let r = reset_of d start in refused_by r.refusal 0 r.detector
+answered (Reset start) d = let r = reset_of d start in record { outcome = none_counted r.outcome; detector = r.detector }
 
 unfoldable pub next : VadDetector → Call → VadDetector
 next d k = (answered k d).detector
 
 -- 0, or the number of the refusal
 unfoldable pub number_of : VadDetector → Call → ℕ
-number_of d k = (answered k d).refusal.number
+number_of d k = number_in (answered k d).outcome
 
 unfoldable pub play : VadDetector → List Call → VadDetector
 play d [] = d

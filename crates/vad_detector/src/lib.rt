@@ -6,7 +6,7 @@ ghost use Rattle.std.specs.Prelude.{◌≡◌, true, ◌≤◌, length};
 ghost use Rattle.ranges.specs.Sizes.{frame_most};
 ghost use Rattle.vad_state.specs.State.{sound_of};
 ghost use Rattle.vad_call.specs.Checks.{check_of};
-ghost use Rattle.vad_detector.specs.Opening.{weights_fit, open_refusal, blank_of, fresh_of, zero_rules, nothing_open, open_of, reset_to, reset_of};
+ghost use Rattle.vad_detector.specs.Opening.{weights_fit, open_verdict, blank_of, fresh_of, zero_rules, nothing_open, open_of, reset_to, reset_of};
 ghost use Rattle.vad_detector.specs.Entries.{detect_of, detect_rows, flush_of, flush_rows};
 ghost use Rattle.vad_detector.specs.Readings.{read_of, undecided_read, analyzed_read, rows_read, talk_read, floor_read, open_start, segment_read};
 
@@ -15,36 +15,15 @@ use refusals::Refusal;
 use vad_call::{Detected, refused, run};
 use vad_config::{Lengths, VadConfig};
 use vad_segments::setters::fresh_track;
-use vad_segments::{ActiveSegment, Rules};
+use vad_segments::{ActiveSegmentState, Rules};
 use vad_state::arrays::filled;
 use vad_state::{Desk, Kept, Stream, VadDetector, sound, weights_in};
 
-// What opening and reset answer: 0 or the refusal's number, and the state.
+// What opening and reset answer, and the state.
 #[derive(Clone, Copy)]
 pub struct Opened {
-    pub refusal: u32,
+    pub outcome: Result<(), Refusal>,
     pub detector: VadDetector,
-}
-
-// A number read from a state, with 0 or the refusal's number.
-#[derive(Clone, Copy)]
-pub struct Reading {
-    pub refusal: u32,
-    pub value: u64,
-}
-
-#[derive(Clone, Copy)]
-pub struct FloorReading {
-    pub refusal: u32,
-    pub value: f32,
-}
-
-// The Rust's `Option<usize>`, with 0 or the refusal's number.
-#[derive(Clone, Copy)]
-pub struct SegmentReading {
-    pub refusal: u32,
-    pub is_open: bool,
-    pub start_sample: u64,
 }
 
 // No sound, and no frame held.
@@ -52,24 +31,21 @@ fn blank(rules: Rules, warming: bool, noise_floor: f32, window: &[f32]) -> VadDe
     requires { length window.now ≤ frame_most }
     ensures { result ≡ blank_of rules warming noise_floor window.now }
 {
-    let stream = Stream {
-        carry_len: 0,
-        carry_start: 0,
-        processed_samples: 0,
-        pre_emphasis_prev: 0.0,
-    };
-    let desk = Desk {
-        warming,
-        held: 0,
-        track: fresh_track(noise_floor),
-    };
-    let kept = Kept {
-        rules,
-        stream,
-        desk,
-    };
     VadDetector {
-        kept,
+        kept: Kept {
+            rules,
+            stream: Stream {
+                carry_len: 0,
+                carry_start: 0,
+                processed_samples: 0,
+                pre_emphasis_prev: 0.0,
+            },
+            desk: Desk {
+                warming,
+                held: 0,
+                track: fresh_track(noise_floor),
+            },
+        },
         window: filled(window),
         carry: [0.0; FRAME_MOST],
         warmup: [0.0; WARMUP_MOST],
@@ -77,6 +53,7 @@ fn blank(rules: Rules, warming: bool, noise_floor: f32, window: &[f32]) -> VadDe
 }
 
 // The Rust's `DetectorState::new`, beside what opening fixed.
+#[tactic(auto, unfolding(crate::specs::Opening::fresh_of))]
 fn fresh(rules: Rules, window: &[f32]) -> VadDetector
     requires { length window.now ≤ frame_most }
     ensures { result ≡ fresh_of rules window.now }
@@ -84,6 +61,7 @@ fn fresh(rules: Rules, window: &[f32]) -> VadDetector
     blank(rules, true, rules.config.energy_floor, window)
 }
 
+#[tactic(auto, unfolding(crate::specs::Opening::zero_rules))]
 fn zero_rules() -> Rules
     ensures { result ≡ zero_rules }
 {
@@ -116,46 +94,41 @@ fn zero_rules() -> Rules
 }
 
 // What a refused opening returns: all zeros, refused by 19 in every later call.
+#[tactic(auto, unfolding(crate::specs::Opening::nothing_open))]
 fn nothing_open() -> VadDetector
     ensures { result ≡ nothing_open }
 {
-    let none = [0.0; 1];
-    blank(zero_rules(), false, 0.0, &none[0..0])
+    blank(zero_rules(), false, 0.0, &[])
 }
 
 // 14: what the host hands in, against the frame's length.
+#[tactic(auto, unfolding(crate::specs::Opening::weights_fit))]
 fn weights_fit(frame_length: usize, window: &[f32], rise: f32) -> bool
     ensures { result ≡ weights_fit frame_length window.now rise }
 {
-    if window.len() != frame_length {
-        return false;
-    }
-    weights_in(window, rise)
+    window.len() == frame_length && weights_in(window, rise)
 }
 
 // 1 to 14.
-fn opening_refusal(config: VadConfig, window: &[f32], speech_floor_rise: f32) -> u32
-    ensures { result ≡ open_refusal config window.now speech_floor_rise }
+fn opening_refusal(config: VadConfig, window: &[f32], speech_floor_rise: f32) -> Result<(), Refusal>
+    ensures { result ≡ open_verdict config window.now speech_floor_rise }
 {
-    let refusal = vad_config::validate(config);
-    if refusal != 0 {
-        return refusal;
-    }
+    vad_config::validate(config)?;
     let lengths = vad_config::lengths_of(config);
     if !weights_fit(lengths.frame_length, window, speech_floor_rise) {
-        return 14;
+        return Err(Refusal::Window);
     }
-    0
+    Ok(())
 }
 
 // Opens a detector with the window and the rise weight that the host worked out.
 pub fn open(config: VadConfig, window: &[f32], speech_floor_rise: f32) -> Opened
     ensures { result ≡ open_of config window.now speech_floor_rise }
 {
-    let refusal = opening_refusal(config, window, speech_floor_rise);
-    if refusal != 0 {
+    let outcome = opening_refusal(config, window, speech_floor_rise);
+    if outcome.is_err() {
         return Opened {
-            refusal,
+            outcome,
             detector: nothing_open(),
         };
     }
@@ -165,7 +138,7 @@ pub fn open(config: VadConfig, window: &[f32], speech_floor_rise: f32) -> Opened
         speech_floor_rise,
     };
     Opened {
-        refusal: 0,
+        outcome,
         detector: fresh(rules, window),
     }
 }
@@ -175,21 +148,14 @@ fn restarted(detector: VadDetector, stream_start_time: u64) -> VadDetector
     requires { sound_of detector ≡ true }
     ensures { result ≡ reset_to detector stream_start_time }
 {
-    let kept = detector.kept;
-    let rules = kept.rules;
-    let mut config = rules.config;
-    config.stream_start_time = stream_start_time;
-    let lengths = rules.lengths;
-    let speech_floor_rise = rules.speech_floor_rise;
-    let frame_length = lengths.frame_length;
-    let window = detector.window;
+    let rules = detector.kept.rules;
+    let config = VadConfig {
+        stream_start_time,
+        ..rules.config
+    };
     fresh(
-        Rules {
-            config,
-            lengths,
-            speech_floor_rise,
-        },
-        &window[0..frame_length],
+        Rules { config, ..rules },
+        &detector.window[..rules.lengths.frame_length],
     )
 }
 
@@ -199,29 +165,28 @@ pub fn reset(detector: VadDetector, stream_start_time: u64) -> Opened
 {
     if !sound(detector) {
         return Opened {
-            refusal: 19,
+            outcome: Err(Refusal::State),
             detector,
         };
     }
     if !vad_config::start_allowed(stream_start_time) {
         return Opened {
-            refusal: 13,
+            outcome: Err(Refusal::Limits),
             detector,
         };
     }
     Opened {
-        refusal: 0,
+        outcome: Ok(()),
         detector: restarted(detector, stream_start_time),
     }
 }
 
 // The arrays are lent, so that none is copied.
-fn check(detector: VadDetector, samples: &[f32]) -> Refusal
+fn check(detector: VadDetector, samples: &[f32]) -> Result<(), Refusal>
     ensures { result ≡ check_of detector samples.now }
 {
-    let kept = detector.kept;
     vad_call::checks::check(
-        kept,
+        detector.kept,
         &detector.window,
         &detector.carry,
         &detector.warmup,
@@ -234,11 +199,10 @@ pub fn detect(detector: VadDetector, samples: &[f32], rows: &mut [u64]) -> Detec
     ensures value { result ≡ detect_of detector samples.now (length rows.old) }
     ensures rows_left { rows.new ≡ detect_rows detector samples.now rows.old }
 {
-    let refusal = check(detector, samples);
-    if refusal.number != 0 {
-        return refused(refusal.number, refusal.carries, detector);
+    match check(detector, samples) {
+        Err(by) => refused(by, detector),
+        Ok(()) => run(detector, samples, false, rows),
     }
-    run(detector, samples, false, rows)
 }
 
 // Judges what still waits for a full frame and closes the open segment, if there is one.
@@ -247,108 +211,83 @@ pub fn flush(detector: VadDetector, rows: &mut [u64]) -> Detected
     ensures rows_left { rows.new ≡ flush_rows detector rows.old }
 {
     if !sound(detector) {
-        return refused(19, 0, detector);
+        return refused(Refusal::State, detector);
     }
-    let none = [0.0; 1];
-    run(detector, &none[0..0], true, rows)
+    run(detector, &[], true, rows)
 }
 
-fn read(detector: VadDetector, value: u64) -> Reading
+#[tactic(auto, unfolding(crate::specs::Readings::read_of))]
+fn read<T: Copy>(detector: VadDetector, value: T) -> Result<T, Refusal>
     ensures { result ≡ read_of detector value }
 {
     if sound(detector) {
-        return Reading { refusal: 0, value };
-    }
-    Reading {
-        refusal: 19,
-        value: 0,
+        Ok(value)
+    } else {
+        Err(Refusal::State)
     }
 }
 
 // The first sample whose judgement can still change.
-pub fn undecided_from(detector: VadDetector) -> Reading
+#[tactic(auto, unfolding(crate::specs::Readings::undecided_read, crate::specs::Readings::undecided_in))]
+pub fn undecided_from(detector: VadDetector) -> Result<u64, Refusal>
     ensures { result ≡ undecided_read detector }
 {
     let kept = detector.kept;
-    let desk = kept.desk;
-    let track = desk.track;
     let position = vad_segments::positions::undecided_from(
-        desk.warming,
+        kept.desk.warming,
         kept.rules.lengths.padding_samples as u64,
         kept.stream.carry_start,
-        track,
+        kept.desk.track,
     );
     read(detector, position)
 }
 
 // The first sample not yet covered by a complete frame.
-pub fn analyzed_until(detector: VadDetector) -> Reading
+#[tactic(auto, unfolding(crate::specs::Readings::analyzed_read))]
+pub fn analyzed_until(detector: VadDetector) -> Result<u64, Refusal>
     ensures { result ≡ analyzed_read detector }
 {
     read(detector, detector.kept.stream.carry_start)
 }
 
 // The start of the segment that is open, if any.
-pub fn active_segment_start_sample(detector: VadDetector) -> SegmentReading
+#[tactic(auto, unfolding(crate::specs::Readings::segment_read))]
+pub fn active_segment_start_sample(detector: VadDetector) -> Result<Option<u64>, Refusal>
     ensures { result ≡ segment_read detector }
 {
-    if sound(detector) {
-        let kept = detector.kept;
-        let desk = kept.desk;
-        let track = desk.track;
-        let active = track.active_segment;
-        return open_start(active);
-    }
-    SegmentReading {
-        refusal: 19,
-        is_open: false,
-        start_sample: 0,
-    }
+    read(
+        detector,
+        open_start(detector.kept.desk.track.active_segment),
+    )
 }
 
-fn open_start(active: ActiveSegment) -> SegmentReading
+#[tactic(auto, unfolding(crate::specs::Readings::open_start))]
+fn open_start(active: Option<ActiveSegmentState>) -> Option<u64>
     ensures { result ≡ open_start active }
 {
-    match active {
-        ActiveSegment::Closed => SegmentReading {
-            refusal: 0,
-            is_open: false,
-            start_sample: 0,
-        },
-        ActiveSegment::Open(segment) => SegmentReading {
-            refusal: 0,
-            is_open: true,
-            start_sample: segment.start_sample,
-        },
-    }
+    active.map(|segment| segment.start_sample)
 }
 
 // Rows since the opening or the latest reset.
-pub fn rows_reported(detector: VadDetector) -> Reading
+#[tactic(auto, unfolding(crate::specs::Readings::rows_read))]
+pub fn rows_reported(detector: VadDetector) -> Result<u64, Refusal>
     ensures { result ≡ rows_read detector }
 {
     read(detector, detector.kept.desk.track.rows_reported)
 }
 
 // Their samples.
-pub fn talk_samples(detector: VadDetector) -> Reading
+#[tactic(auto, unfolding(crate::specs::Readings::talk_read))]
+pub fn talk_samples(detector: VadDetector) -> Result<u64, Refusal>
     ensures { result ≡ talk_read detector }
 {
     read(detector, detector.kept.desk.track.talk_samples)
 }
 
 // The running estimate of the background's energy.
-pub fn noise_floor(detector: VadDetector) -> FloorReading
+#[tactic(auto, unfolding(crate::specs::Readings::floor_read))]
+pub fn noise_floor(detector: VadDetector) -> Result<f32, Refusal>
     ensures { result ≡ floor_read detector }
 {
-    if sound(detector) {
-        return FloorReading {
-            refusal: 0,
-            value: detector.kept.desk.track.noise_floor,
-        };
-    }
-    FloorReading {
-        refusal: 19,
-        value: 0.0,
-    }
+    read(detector, detector.kept.desk.track.noise_floor)
 }

@@ -1,8 +1,10 @@
 -- What the door's answers carry is small, whatever the state: `answer` asks for less than 2^55. Assumes nothing.
-use mathlib.Core.Path.{◌≡◌, refl}
+use Rattle.vad_segments.specs.declared.ActiveSegmentState.{ActiveSegmentState}
+use Rattle.std.specs.Prelude.{None, Option, Some, IfSome, Result, Ok, Err, ⊤}
+use mathlib.Core.Path.{◌≡◌, refl, ap}
 use mathlib.Core.Bool.{Bool, true, false, not, cond}
 use mathlib.Core.List.{List, [], ◌∷◌}
-use Prim.Native.Nat.{ℕ, suc, ◌+◌, ◌^◌, ◌≤◌, ◌<◌}
+use Prim.Native.Nat.{ℕ, ◌+◌, ◌^◌, ◌≤◌, ◌<◌}
 use native.Mathlib.Omega.{arith}
 use borrow.Author.Tests.{ltb-true, ltb-false}
 use lib.ListN.{length, length-append, length-take}
@@ -14,8 +16,6 @@ use Rattle.vad_row.specs.Rows.{reported}
 use Rattle.vad_segments.specs.Judging.{judged_of, track_after, rows_of, ended_of, call_rows}
 use Rattle.vad_segments.specs.declared.Rules.{Rules}
 use Rattle.vad_segments.specs.declared.FrameMetrics.{FrameMetrics}
-use Rattle.vad_segments.specs.declared.ActiveSegment.{ActiveSegment}
-use Rattle.vad_segments.specs.declared.ActiveSegment.TheVariants.{Closed, Open}
 use Rattle.vad_segments.specs.declared.Track.{Track}
 use Rattle.vad_segments.proofs.Ordered.{frames_length}
 use Rattle.vad_row.proofs.Laws.{report_le}
@@ -25,17 +25,20 @@ use Rattle.vad_state.specs.declared.Kept.{Kept}
 use Rattle.vad_state.specs.declared.VadDetector.{VadDetector}
 use Rattle.vad_state.proofs.Parts.{ActiveIn, Sound, parts, frame_high}
 use Rattle.vad_call.specs.Calls.{values_most, rows_of_call, values_of, measured_of, stream_after, carry_after, holding_of, held_after, due_of, seeded_of, grid_start, frames_due, verdict_of, rows_due, too_many, refused_by, accepted_of, concluded_of, ran_of, energies_most}
+use Rattle.vad_call.specs.declared.Tally.{Tally}
 use Rattle.vad_call.specs.declared.Detected.{Detected}
 use Rattle.vad_call.proofs.Calls.{measured_few}
 use Rattle.vad_call.specs.Checks.{block_refusals, check_of}
-use Rattle.refusals.specs.Refusals.{bare}
+use Rattle.refusals.specs.Refusals.{number_in, carries_in, refusing, if_passed}
+use Rattle.refusals.specs.declared.Refusal.{Refusal}
+use Rattle.refusals.specs.declared.Refusal.TheVariants as why
 use Rattle.refusals.proofs.First.{decided}
 use Rattle.vad_detector.specs.Readings.{open_start}
-use Rattle.vad_detector.specs.declared.SegmentReading.{SegmentReading}
+use Rattle.vad_detector.proofs.Answers.{checked}
 use Rattle.vad_lent.specs.Lent.{state_at}
 use Rattle.vad_memory.proofs.RoundTrip.{Shaped}
 use Rattle.vad_door.specs.DetectorDoor.{start_word}
-use Rattle.vad_door.specs.Inside.{WordsSmall}
+use Rattle.vad_door.specs.Inside.{WordsSmall, carried_in, uncounted, heard_of}
 use Rattle.vad_door.proofs.Carried.{ran_shaped}
 
 -- ---- a call that no check refused: 18 or 0
@@ -46,18 +49,18 @@ module _ (finish : Bool) (d : VadDetector) (xs : List Float) (room : ℕ) where
       let es = measured_of finish d xs in
       accepted_of d (stream_after finish d xs) (carry_after finish d xs) (holding_of finish d.kept es) (held_after finish d.kept es) (verdict_of finish d.kept (d.kept.stream.processed_samples + length xs) (due_of finish d.kept es)) (length (rows_of_call finish d xs))
 
-  ran_ways : (P : Detected → Type 0) → P (refused_by 18 (length (rows_of_call finish d xs)) d) → P accepted → P (ran_of finish d xs room)
+  ran_ways : (P : Detected → Type 0) → P (refused_by (why.Rows (length (rows_of_call finish d xs))) d) → P accepted → P (ran_of finish d xs room)
   unfolding ran_of concluded_of stream_after rows_of_call
   ran_ways P stuck done = go (too_many (rows_of_call finish d xs) room)
     where
-      go : (b : Bool) → P (cond b (refused_by 18 (length (rows_of_call finish d xs)) d) accepted)
+      go : (b : Bool) → P (cond b (refused_by (why.Rows (length (rows_of_call finish d xs))) d) accepted)
       go true = stuck
       go false = done
 
   -- refused, it answers the state that it was given
-  pub ran_given : ((ran_of finish d xs room).refusal.number ≡ 0 → ⊥) → (ran_of finish d xs room).detector ≡ d
+  pub ran_given : (number_in (ran_of finish d xs room).outcome ≡ 0 → ⊥) → (ran_of finish d xs room).detector ≡ d
   unfolding refused_by accepted_of
-  ran_given = ran_ways (λ p. (p.refusal.number ≡ 0 → ⊥) → p.detector ≡ d) (λ z. refl) (λ z. absurd (z refl))
+  ran_given = ran_ways (λ p. (number_in p.outcome ≡ 0 → ⊥) → p.detector ≡ d) (λ z. refl) (λ z. absurd (z refl))
 
   -- and its arrays have their lengths in every case
   pub ran_arrays : Sound d → Shaped d → Shaped (ran_of finish d xs room).detector
@@ -115,21 +118,21 @@ module _ (finish : Bool) (d : VadDetector) where
     unfolding measured_of
     measured_small = measured_few finish d s (values_of d xs) values_few
 
-    pub ran_small : (room : ℕ) → (ran_of finish d xs room).refusal.carries ≤ 1025
+    pub ran_small : (room : ℕ) → carries_in (ran_of finish d xs room).outcome ≤ 1025
     unfolding refused_by accepted_of rows_of_call
     ran_small room =
         let es = measured_of finish d xs in
         let m = measured_small in
         let n = due_few es in
         let k = rows_due_few (d.kept.stream.processed_samples + length xs) (due_of finish d.kept es) in
-        ran_ways finish d xs room (λ p. p.refusal.carries ≤ 1025) (omega arith) (omega arith)
+        ran_ways finish d xs room (λ p. carries_in p.outcome ≤ 1025) (omega arith) (omega arith)
 
 -- ---- 16: the place of a sample
 
-pub check_small : (d : VadDetector) (xs : List Float) → (check_of d xs).carries ≤ block_most
+pub check_small : (d : VadDetector) (xs : List Float) → carries_in (check_of d xs) ≤ block_most
 unfolding check_of
 check_small d xs =
-    decided (λ r. r.carries ≤ block_most) (bare 19 (not (sound_of d)) ∷ block_refusals d.kept.stream.processed_samples xs) (
+    decided (λ v. carries_in v ≤ block_most) (refusing why.State (not (sound_of d)) ∷ block_refusals d.kept.stream.processed_samples xs) (
       (λ s. omega arith),
       λ s. (
         (λ l. omega arith),
@@ -140,12 +143,26 @@ check_small d xs =
       ),
     )
 
+-- ---- so what a call carries fits, whatever was checked
+
+pub heard_small : (finish : Bool) (d : VadDetector) (xs : List Float) (room : ℕ) → carried_in (uncounted (heard_of finish xs room d).outcome) < 2 ^ 55
+unfolding heard_of refused_by
+heard_small finish d xs room = go (check_of d xs) refl
+  where
+    carried : (v : Result Tally Refusal) → carries_in v ≤ 1025 → carried_in (uncounted v) < 2 ^ 55
+    carried (Ok t) few = omega arith
+    carried (Err r) few = omega arith
+
+    go : (v : Result ⊤ Refusal) → check_of d xs ≡ v → carried_in (uncounted (if_passed v (ran_of finish d xs room) (λ r. refused_by r d)).outcome) < 2 ^ 55
+    go (Ok x) h = let ok = checked d xs h in carried (ran_of finish d xs room).outcome (ran_small finish d (parts d ok.sound) xs ok.short room)
+    go (Err r) h = let few = check_small d xs in let same = ap (λ (v : Result ⊤ Refusal). carries_in v) h in omega arith
+
 -- ---- readings of a sound state
 
-start_in_lem : (hangover received last : ℕ) (a : ActiveSegment) → ActiveIn hangover received last a → (open_start a).start_sample ≤ received
+start_in_lem : (hangover received last : ℕ) (a : Option ActiveSegmentState) → ActiveIn hangover received last a → received ≤ received_most → IfSome (open_start a) (λ start. start ≤ received_most)
 unfolding open_start
-start_in_lem hangover received last Closed h = omega arith
-start_in_lem hangover received last (Open s) h = h.start
+start_in_lem hangover received last None h most = tt
+start_in_lem hangover received last (Some s) h most = let start = h.start in omega arith
 
 module _ (k : Kept) (fs : List Float) (h : sound_of (state_at k fs) ≡ true) where
   told : Sound (state_at k fs)
@@ -159,13 +176,10 @@ module _ (k : Kept) (fs : List Float) (h : sound_of (state_at k fs) ≡ true) wh
       let joined = told.joined in
       let ended = told.ended in
       let talk = told.talk in
-      let start = start_in_lem k.rules.config.hangover_frames k.stream.processed_samples k.desk.track.last_segment_end k.desk.track.active_segment told.active in
-      (omega arith, omega arith, omega (arith, told.rows), omega arith)
+      let start = start_in_lem k.rules.config.hangover_frames k.stream.processed_samples k.desk.track.last_segment_end k.desk.track.active_segment told.active most in
+      (omega arith, start, omega (arith, told.rows), omega arith)
 
 -- the word of a start is one more than it
-pub start_word_small : (r : SegmentReading) → r.start_sample ≤ received_most → start_word r < 2 ^ 55
-start_word_small r h = go r.is_open
-  where
-    go : (b : Bool) → cond b (suc r.start_sample) 0 < 2 ^ 55
-    go true = omega arith
-    go false = omega arith
+pub start_word_small : (start : Option ℕ) → IfSome start (λ s. s ≤ received_most) → start_word start < 2 ^ 55
+start_word_small None h = omega arith
+start_word_small (Some s) h = omega arith

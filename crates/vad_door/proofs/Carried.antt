@@ -6,10 +6,13 @@ use mathlib.Core.Bool.{Bool, true, false, ◌&&◌, cond}
 use mathlib.Core.List.{List, [], ◌∷◌}
 use Prim.Native.Nat.{ℕ, ◌≤◌}
 use native.Mathlib.Omega.{arith}
-use borrow.Author.Tests.{eqb-true, eqb-false}
+use borrow.Author.Tests.{eqb-false}
 use lib.Dec.{eqb}
 use lib.ListN.{length, length-take}
 use lib.Ieee.{Float}
+use Rattle.std.specs.Prelude.{Result, Ok, Err, ⊤}
+use Rattle.refusals.specs.Refusals.{number_in, if_passed}
+use Rattle.refusals.specs.declared.Refusal.{Refusal}
 use Rattle.vad_config.specs.declared.VadConfig.{VadConfig}
 use Rattle.vad_config.proofs.Laws.{accepted}
 use Rattle.vad_segments.specs.declared.Rules.{Rules}
@@ -18,15 +21,15 @@ use Rattle.vad_state.specs.State.{window_of}
 use Rattle.vad_state.specs.declared.VadDetector.{VadDetector}
 use Rattle.vad_state.proofs.Parts.{Sound, parts}
 use Rattle.vad_state.proofs.Fills.{filled_length}
-use Rattle.vad_call.specs.Calls.{measured_of, carry_after, holding_with, holding_of, held_after, refused_by, joined_of, advanced_of}
+use Rattle.vad_call.specs.Calls.{measured_of, carry_after, holding_with, holding_of, held_after, joined_of, advanced_of, tally_in}
 use Rattle.vad_call.specs.declared.Detected.{Detected}
 use Rattle.vad_call.proofs.Calls.{carry_few, held_few}
-use Rattle.vad_detector.specs.Opening.{open_refusal, rules_of, fresh_of, zero_rules, nothing_open, open_of, restarted_of, reset_to, reset_of}
+use Rattle.vad_detector.specs.Opening.{open_verdict, open_refusal, rules_of, fresh_of, zero_rules, nothing_open, open_of, restarted_of, reset_to, reset_of}
 use Rattle.vad_detector.specs.Entries.{detect_of, flush_of}
-use Rattle.vad_detector.specs.Run.{Call, Detect, Flush, Reset, next, play, answered}
+use Rattle.vad_detector.specs.Run.{Call, Detect, Flush, Reset, next, number_of, play, answered}
 use Rattle.vad_detector.proofs.Answers.{open_parts, window_short}
 use Rattle.vad_detector.proofs.Running.{ran_to}
-use Rattle.vad_detector.proofs.Runs.{Ends, detect_ends, flush_ends, reset_ends}
+use Rattle.vad_detector.proofs.Runs.{Ends, detect_ends, flush_ends, reset_ends, reset_number}
 use Rattle.vad_memory.proofs.RoundTrip.{Shaped, written_back, written_readable, read_shaped}
 use Rattle.vad_memory.specs.DetectorState.{detector_at, long_enough, readable, numbers_written, floats_written}
 use Rattle.vad_door.specs.DetectorDoor.{open_numbers, open_floats, call_numbers, call_floats, numbers_after, floats_after}
@@ -49,15 +52,15 @@ nothing_shaped =
 
 -- a refused opening's state too
 pub open_shaped : (c : VadConfig) (window : List Float) (rise : Float) → Shaped (open_of c window rise).detector
-unfolding open_of rules_of
-open_shaped c window rise = go (eqb n 0) (eqb-true n 0)
+unfolding open_of open_refusal rules_of
+open_shaped c window rise = go (open_verdict c window rise) refl
   where
-    n : ℕ
-    n = open_refusal c window rise
-
-    go : (b : Bool) → (b ≡ true → n ≡ 0) → Shaped (cond b (fresh_of (rules_of c rise) window) nothing_open)
-    go true h = let rate = (accepted c (open_parts c window rise (h refl)).0).rate_high in fresh_shaped (rules_of c rise) window (window_short c window rise (h refl)) (omega arith)
-    go false h = nothing_shaped
+    go : (v : Result ⊤ Refusal) → open_verdict c window rise ≡ v → Shaped (if_passed v (fresh_of (rules_of c rise) window) (λ r. nothing_open))
+    go (Ok x) h =
+        let none : open_refusal c window rise ≡ 0 = ap (λ (v : Result ⊤ Refusal). number_in v) h in
+        let rate = (accepted c (open_parts c window rise none).0).rate_high in
+        fresh_shaped (rules_of c rise) window (window_short c window rise none) (omega arith)
+    go (Err r) h = nothing_shaped
 
 held_length : (finish : Bool) (d : VadDetector) → Sound d → (es : List Float) → length (held_after finish d.kept es) ≤ warmup_most
 unfolding held_after holding_of
@@ -115,18 +118,18 @@ module _ (ns : List ℕ) (fs : List Float) (good : readable ns fs ≡ true) wher
 
     call_readable : readable (call_numbers ns fs f) (call_floats ns fs f) ≡ true
     unfolding call_numbers call_floats
-    call_readable = go (readable ns fs && eqb p.refusal.number 0)
+    call_readable = go (readable ns fs && eqb (number_in p.outcome) 0)
       where
-        go : (b : Bool) → readable (cond b (numbers_written p.detector.kept p.tally ns) ns) (cond b (floats_written p.detector fs) fs) ≡ true
-        go true = written_readable p.detector p.tally ns fs s
+        go : (b : Bool) → readable (cond b (numbers_written p.detector.kept (tally_in p.outcome) ns) ns) (cond b (floats_written p.detector fs) fs) ≡ true
+        go true = written_readable p.detector (tally_in p.outcome) ns fs s
         go false = good
 
-    call_carried : ((p.refusal.number ≡ 0 → ⊥) → p.detector ≡ d) → detector_at (call_numbers ns fs f) (call_floats ns fs f) ≡ p.detector
+    call_carried : ((number_in p.outcome ≡ 0 → ⊥) → p.detector ≡ d) → detector_at (call_numbers ns fs f) (call_floats ns fs f) ≡ p.detector
     unfolding call_numbers call_floats
-    call_carried same = rw good (go (eqb p.refusal.number 0) (eqb-false p.refusal.number 0))
+    call_carried same = rw good (go (eqb (number_in p.outcome) 0) (eqb-false (number_in p.outcome) 0))
       where
-        go : (b : Bool) → (b ≡ false → p.refusal.number ≡ 0 → ⊥) → detector_at (cond b (numbers_written p.detector.kept p.tally ns) ns) (cond b (floats_written p.detector fs) fs) ≡ p.detector
-        go true f = written_back p.detector p.tally ns fs s
+        go : (b : Bool) → (b ≡ false → number_in p.outcome ≡ 0 → ⊥) → detector_at (cond b (numbers_written p.detector.kept (tally_in p.outcome) ns) ns) (cond b (floats_written p.detector fs) fs) ≡ p.detector
+        go true f = written_back p.detector (tally_in p.outcome) ns fs s
         go false f = sym (same (f refl))
 
   shape : Shaped d
@@ -146,12 +149,11 @@ module _ (ns : List ℕ) (fs : List Float) (good : readable ns fs ≡ true) wher
   flush_carried room = call_carried (answered (Flush room)) (flush_shaped d shape room) (given _ _ _ _ _ (flush_ends d room))
 
   pub reset_readable : (start : ℕ) → let f = answered (Reset start) in readable (call_numbers ns fs f) (call_floats ns fs f) ≡ true
-  unfolding refused_by
   reset_readable start = call_readable (answered (Reset start)) (reset_shaped d shape start)
 
   pub reset_carried : (start : ℕ) → let f = answered (Reset start) in detector_at (call_numbers ns fs f) (call_floats ns fs f) ≡ (reset_of d start).detector
-  unfolding refused_by
-  reset_carried start = call_carried (answered (Reset start)) (reset_shaped d shape start) (given _ _ _ _ _ (reset_ends d start))
+  unfolding number_of
+  reset_carried start = call_carried (answered (Reset start)) (reset_shaped d shape start) (λ z. given _ _ _ _ _ (reset_ends d start) (λ n. z (reset_number d start ∙ n)))
 
   next_readable : (k : Call) → readable (call_numbers ns fs (answered k)) (call_floats ns fs (answered k)) ≡ true
   next_readable (Detect xs room) = detect_readable xs room
@@ -159,7 +161,7 @@ module _ (ns : List ℕ) (fs : List Float) (good : readable ns fs ≡ true) wher
   next_readable (Reset start) = reset_readable start
 
   next_carried : (k : Call) → detector_at (call_numbers ns fs (answered k)) (call_floats ns fs (answered k)) ≡ next d k
-  unfolding next refused_by
+  unfolding next
   next_carried (Detect xs room) = detect_carried xs room
   next_carried (Flush room) = flush_carried room
   next_carried (Reset start) = reset_carried start

@@ -1,4 +1,6 @@
 -- One turn of each loop, over plain lists. Assumes nothing.
+use Rattle.std.specs.Prelude.{Some, slice_get}
+use Rattle.std.specs.Option.{unwrap_or}
 use mathlib.Core.Path.{◌≡◌, refl, sym, ap, ◌∙◌}
 use mathlib.Core.Logic.{inl, inr}
 use mathlib.Core.Bool.{Bool, true, false}
@@ -12,7 +14,6 @@ use lib.Seq.{take_all, take-length, drop-cons, drop-drop}
 use lib.Dec.{T}
 use lib.Ieee.{Float, nan, inf, fin, binary32, add, neg}
 use lib.Ieee.Scale.{finite}
-use Rattle.float.specs.declared.Rounded.TheVariants.{Finite}
 use Rattle.float.specs.Finite.{or_zero}
 use Rattle.float.specs.Fused.{fused_of}
 use Rattle.float.proofs.Sticky.{side}
@@ -44,22 +45,17 @@ finite_neg nan h = h
 finite_neg (inf s) h = h
 finite_neg (fin s m e) h = tt
 
-pub settled_is : (a p x y : Float) → Finite y ≡ fused_of a (neg p) x → y ≡ emphasized_of a p x
+pub settled_is : (a p x y : Float) → Some y ≡ fused_of a (neg p) x → y ≡ emphasized_of a p x
 unfolding emphasized_of
 settled_is a p x y h = ap or_zero h
 
 -- ---- the last raw sample
-pub last_none : (p : Float) (xs : List Float) → length xs ≡ 0 → p ≡ last_of p xs
+pub last_found : (p : Float) (xs : List Float) → unwrap_or (slice_get xs (length xs - 1)) p ≡ last_of p xs
 unfolding last_of
-last_none p [] h = refl
-last_none p (x ∷ xs) h = absurd (omega arith)
-
-pub last_is : (p : Float) (xs : List Float) → 0 < length xs → get_or xs (length xs - 1) nan ≡ last_of p xs
-unfolding last_of
-last_is p [] h = absurd (omega arith)
-last_is p (x ∷ xs) h = let e : length (x ∷ xs) - 1 ≡ length xs = omega arith in rw e (go x xs)
+last_found p [] = refl
+last_found p (x ∷ xs) = let e : length (x ∷ xs) - 1 ≡ length xs = omega arith in rw e (go x xs)
   where
-    go : (x : Float) (xs : List Float) → get_or (x ∷ xs) (length xs) nan ≡ last_of x xs
+    go : (x : Float) (xs : List Float) → unwrap_or (slice_get (x ∷ xs) (length xs)) p ≡ last_of x xs
     go x [] = refl
     go x (y ∷ ys) = go y ys
 

@@ -23,10 +23,7 @@ pub struct Framed {
 pub fn coefficient(has_pre_emphasis: bool, pre_emphasis: f32) -> f32
     ensures { result ≡ coefficient_of has_pre_emphasis pre_emphasis }
 {
-    if has_pre_emphasis {
-        return pre_emphasis;
-    }
-    0.0
+    if has_pre_emphasis { pre_emphasis } else { 0.0 }
 }
 
 fn emphasize(coeff: f32, previous: f32, sample: f32) -> f32
@@ -39,13 +36,9 @@ fn emphasize(coeff: f32, previous: f32, sample: f32) -> f32
 fn all_finite(coeff: f32, previous: f32, samples: &[f32]) -> bool
     ensures { result ≡ true → Operands coeff previous samples.now }
 {
-    if !float::is_finite(coeff) {
-        return false;
-    }
-    if !float::is_finite(previous) {
-        return false;
-    }
-    ranges::all_inside(-65536.0, samples, 65536.0)
+    float::is_finite(coeff)
+        && float::is_finite(previous)
+        && ranges::all_inside(-65536.0, samples, 65536.0)
 }
 
 // Writes the sums that the processor's f64 gives, several at once, and answers whether it settles them all.
@@ -56,14 +49,11 @@ fn settle_finite(coeff: f32, previous: f32, samples: &[f32], values: &mut [f32])
 {
     let mut all = true;
     let mut prior = previous;
-    let mut i = 0;
-    while i < samples.len() {
-        let sample = samples[i];
+    for (i, &sample) in samples.iter().enumerate() {
         let quick = quick_sum(coeff, -prior, sample);
         values[i] = quick.sum;
         all = both(all, quick.settled);
         prior = sample;
-        i += 1;
     }
     all
 }
@@ -74,10 +64,7 @@ fn settle(coeff: f32, previous: f32, samples: &[f32], values: &mut [f32]) -> boo
     ensures values_left { result ≡ true → values.new ≡ sets values.old 0 (emphasized coeff previous samples.now) }
     ensures same_past { SamePast (length samples.now) values.new values.old }
 {
-    if all_finite(coeff, previous, samples) {
-        return settle_finite(coeff, previous, samples, values);
-    }
-    false
+    all_finite(coeff, previous, samples) && settle_finite(coeff, previous, samples, values)
 }
 
 // One sum after the other, whatever the operands are.
@@ -86,23 +73,16 @@ fn emphasize_each(coeff: f32, previous: f32, samples: &[f32], values: &mut [f32]
     ensures { values.new ≡ sets values.old 0 (emphasized coeff previous samples.now) }
 {
     let mut last = previous;
-    let mut i = 0;
-    while i < samples.len() {
-        let sample = samples[i];
-        let value = emphasize(coeff, last, sample);
-        values[i] = value;
+    for (i, &sample) in samples.iter().enumerate() {
+        values[i] = emphasize(coeff, last, sample);
         last = sample;
-        i += 1;
     }
 }
 
 fn last_sample(previous: f32, samples: &[f32]) -> f32
     ensures { result ≡ last_of previous samples.now }
 {
-    if samples.len() == 0 {
-        return previous;
-    }
-    samples[samples.len() - 1]
+    samples.last().copied().unwrap_or(previous)
 }
 
 // Writes a block's values and answers its last raw sample, which the next block's first is emphasized with.
@@ -111,10 +91,9 @@ pub fn pre_emphasize(coeff: f32, previous: f32, samples: &[f32], values: &mut [f
     ensures value { result ≡ last_of previous samples.now }
     ensures values_left { values.new ≡ sets values.old 0 (emphasized coeff previous samples.now) }
 {
-    if settle(coeff, previous, samples, values) {
-        return last_sample(previous, samples);
+    if !settle(coeff, previous, samples, values) {
+        emphasize_each(coeff, previous, samples, values);
     }
-    emphasize_each(coeff, previous, samples, values);
     last_sample(previous, samples)
 }
 
@@ -124,11 +103,9 @@ fn sum_of_squares(frame: &[f32], window: &[f32]) -> f32
     ensures { result ≡ squares_from zero32 frame.now window.now }
 {
     let mut total = 0.0;
-    let mut i = 0;
-    while i < frame.len() {
-        let windowed = frame[i] * window[i];
-        total = total + windowed * windowed;
-        i += 1;
+    for (i, &sample) in frame.iter().enumerate() {
+        let windowed = sample * window[i];
+        total += windowed * windowed;
     }
     total
 }
@@ -149,15 +126,6 @@ fn starts(finish: bool, frame_length: usize, left: usize) -> bool
     finish || frame_length <= left
 }
 
-fn lesser(a: usize, b: usize) -> usize
-    ensures { result ≡ min a b }
-{
-    if a <= b {
-        return a;
-    }
-    b
-}
-
 // Measures the frames on the hop grid, and answers how many they are.
 fn measure(
     values: &[f32],
@@ -172,16 +140,14 @@ fn measure(
     ensures energies_left { energies.new ≡ sets energies.old 0 (energies_of finish window.now hop_length values.now) }
 {
     let mut count = 0;
-    let mut start = 0;
-    while start < values.len() {
+    for start in (0..values.len()).step_by(hop_length) {
         let left = values.len() - start;
         if !starts(finish, window.len(), left) {
             break;
         }
-        let valid_len = lesser(window.len(), left);
-        energies[count] = frame_energy(&values[start..start + valid_len], window);
+        let end = start + window.len().min(left);
+        energies[count] = frame_energy(&values[start..end], window);
         count += 1;
-        start += hop_length;
     }
     count
 }
@@ -200,14 +166,10 @@ pub fn frame_signal(
     ensures energies_left { energies.new ≡ sets energies.old 0 (energies_of finish window.now hop_length values.now) }
 {
     let frames = measure(values, window, hop_length, finish, energies);
-    if finish {
-        return Framed {
-            frames,
-            consumed: values.len(),
-        };
-    }
-    Framed {
-        frames,
-        consumed: lesser(frames * hop_length, values.len()),
-    }
+    let consumed = if finish {
+        values.len()
+    } else {
+        (frames * hop_length).min(values.len())
+    };
+    Framed { frames, consumed }
 }

@@ -1,12 +1,9 @@
 -- Arrays put into their places in the floats, one behind the other. Assumes nothing.
 use mathlib.Core.Path.{◌≡◌, refl, sym, ap, ◌∙◌}
-use mathlib.Core.Bool.{Bool, true, false, cond}
 use mathlib.Core.List.{List, ◌++◌, append_assoc}
 use Prim.Native.Nat.{ℕ, ◌+◌, ◌-◌, ◌≤◌}
 use native.Mathlib.Omega.{arith}
 use lib.ListN.{length, take, drop, length-take, length-drop, length-append, take-append-drop}
-use lib.Dec.{eqb}
-use borrow.Author.Tests.{eq-eqb, ne_eqb}
 use lib.Seq.{drop-drop, take_at, drop_at}
 use lib.Ieee.{Float}
 use Rattle.vad_layout.proofs.InFloats as in-floats
@@ -15,10 +12,12 @@ use Rattle.vad_state.specs.Arrays.{filled_of}
 use Rattle.vad_state.proofs.Fills.{filled_length}
 use Rattle.vad_state.specs.State.{state_of, window_of}
 use Rattle.vad_state.specs.declared.Kept.{Kept}
-use Rattle.vad_call.specs.Calls.{joined_of, settled_of}
+use Rattle.vad_call.specs.Calls.{refused_by, joined_of, taken_of, settled_of, tallied}
 use Rattle.vad_call.specs.declared.Detected.{Detected}
 use Rattle.vad_call.specs.declared.Heard.{Heard}
-use Rattle.vad_lent.specs.Inside.{put_in, settled_in}
+use Rattle.std.specs.Prelude.{Result, Ok, Err, IfOk}
+use Rattle.refusals.specs.declared.Refusal.{Refusal}
+use Rattle.vad_lent.specs.Inside.{put_in, heard_in, settled_in}
 use Rattle.vad_lent.specs.Lent.{state_at, arrays_in}
 
 -- the three parts that are lent have their lengths
@@ -94,43 +93,39 @@ unfolding put_in arrays_in joined_of state_at window_of
 joined k n carry held fs = refl
 
 -- what a call leaves, in the words of the state that it leads to
-module _ (k : Kept) (fs : List Float) (h : Heard) (values energies : List Float) where
-  pub settled_arrays : settled_in k.rules.lengths.frame_length h values energies fs ≡ arrays_in (settled_of h values energies (state_at k fs)).detector fs
-  unfolding settled_in settled_of
-  settled_arrays = go (eqb h.refusal.number 0)
-    where
-      carry : List Float
-      carry = take h.kept.stream.carry_len (drop h.consumed values)
+module _ (k : Kept) (fs values energies : List Float) where
+  pub settled_arrays : (h : Result Heard Refusal) → settled_in k.rules.lengths.frame_length h values energies fs ≡ arrays_in (settled_of h values energies (state_at k fs)).detector fs
+  unfolding settled_in heard_in settled_of taken_of refused_by
+  settled_arrays (Ok h) = joined k h.kept (take h.kept.stream.carry_len (drop h.consumed values)) (take h.kept.desk.held energies) fs
+  settled_arrays (Err r) = sym (arrays_back k fs)
 
-      held : List Float
-      held = take h.kept.desk.held energies
+  settled_tallied : (h : Result Heard Refusal) → tallied h ≡ (settled_of h values energies (state_at k fs)).outcome
+  unfolding settled_of taken_of refused_by
+  settled_tallied (Ok h) = refl
+  settled_tallied (Err r) = refl
 
-      go : (b : Bool) → cond b (put_in k.rules.lengths.frame_length carry held fs) fs ≡ arrays_in (cond b (joined_of (state_at k fs) h.kept carry held) (state_at k fs)) fs
-      go true = joined k h.kept carry held fs
-      go false = sym (arrays_back k fs)
+  -- the answer of a call from what was heard, and what it leaves in the floats
+  module _ (h : Result Heard Refusal) (ran : Detected) (same : ran ≡ settled_of h values energies (state_at k fs)) where
+    pub ran_tallied : tallied h ≡ ran.outcome
+    ran_tallied = settled_tallied h ∙ sym (ap (λ (x : Detected). x.outcome) same)
 
--- the answer of a call from what was heard, and what it leaves in the floats
-module _ (k : Kept) (fs : List Float) (h : Heard) (values energies : List Float) (ran : Detected) (same : ran ≡ settled_of h values energies (state_at k fs)) where
-  pub ran_refusal : h.refusal ≡ ran.refusal
-  unfolding settled_of
-  ran_refusal = sym (ap (λ (x : Detected). x.refusal) same)
+    pub ran_arrays : (out : List Float) → out ≡ settled_in k.rules.lengths.frame_length h values energies fs → out ≡ arrays_in ran.detector fs
+    ran_arrays out e = e ∙ settled_arrays h ∙ sym (ap (λ (x : Detected). arrays_in x.detector fs) same)
 
-  pub ran_tally : h.tally ≡ ran.tally
-  unfolding settled_of
-  ran_tally = sym (ap (λ (x : Detected). x.tally) same)
+pub settled_refused : (n : ℕ) (r : Refusal) (values energies fs : List Float) → fs ≡ settled_in n (Err r) values energies fs
+unfolding settled_in
+settled_refused n r values energies fs = refl
 
-  pub ran_arrays : (out : List Float) → out ≡ settled_in k.rules.lengths.frame_length h values energies fs → out ≡ arrays_in ran.detector fs
-  ran_arrays out e = e ∙ settled_arrays k fs h values energies ∙ sym (ap (λ (x : Detected). arrays_in x.detector fs) same)
+-- the parts as they are lent
+pub heard_put : (n : ℕ) (h : Heard) (values energies fs out : List Float) → out ≡ put_in n (take (h.consumed + h.kept.stream.carry_len - h.consumed) (drop h.consumed values)) (take (h.kept.desk.held - 0) energies) fs
+    → out ≡ heard_in n h values energies fs
+unfolding heard_in
+heard_put n h values energies fs out put =
+    let long : h.consumed + h.kept.stream.carry_len - h.consumed ≡ h.kept.stream.carry_len = omega arith in
+    let first : h.kept.desk.held - 0 ≡ h.kept.desk.held = omega arith in
+    put ∙ rw (long, first)
 
--- the two ways through `settle`
-module _ (n : ℕ) (h : Heard) (values energies fs : List Float) where
-  pub settled_refused : (h.refusal.number ≡ 0 → ⊥) → fs ≡ settled_in n h values energies fs
-  unfolding settled_in
-  settled_refused e = rw (ne_eqb h.refusal.number 0 e)
-
-  pub settled_put : (out : List Float) → h.refusal.number ≡ 0 → out ≡ put_in n (take (h.consumed + h.kept.stream.carry_len - h.consumed) (drop h.consumed values)) (take (h.kept.desk.held - 0) energies) fs → out ≡ settled_in n h values energies fs
-  unfolding settled_in
-  settled_put out e put =
-      let long : h.consumed + h.kept.stream.carry_len - h.consumed ≡ h.kept.stream.carry_len = omega arith in
-      let first : h.kept.desk.held - 0 ≡ h.kept.desk.held = omega arith in
-      put ∙ rw (long, first, eq-eqb h.refusal.number 0 e)
+-- of what was heard the numbers alone
+pub kept_told : (a : Kept) (b : ℕ) (h : Result Heard Refusal) → IfOk h (λ x. (x.kept ≡ a) × (x.kept.stream.carry_start ≡ b + x.consumed)) → IfOk h (λ x. x.kept ≡ a)
+kept_told a b (Ok x) p = p.0
+kept_told a b (Err r) p = tt

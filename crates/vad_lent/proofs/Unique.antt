@@ -7,25 +7,23 @@ use lib.Ieee.{Float}
 use Rattle.float.proofs.Unique.{only}
 use Rattle.vad_state.specs.State.{sound_of}
 use Rattle.vad_state.specs.declared.Kept.{Kept}
-use Rattle.vad_call.specs.Calls.{ran_of, written_of}
+use Rattle.std.specs.Prelude.{Result, ⊤}
+use Rattle.vad_call.specs.Calls.{ran_of, written_of, tallied}
 use Rattle.refusals.specs.declared.Refusal.{Refusal}
-use Rattle.vad_call.specs.declared.Tally.{Tally}
+use Rattle.vad_call.specs.declared.Heard.{Heard}
 use Rattle.vad_call.specs.Checks.{check_of}
 use Rattle.vad_lent.specs.Lent.{state_at, arrays_in}
 
 pub sound_at_unique : (k : Kept) (fs : List Float) (r q : Bool) → r ≡ sound_of (state_at k fs) → q ≡ sound_of (state_at k fs) → r ≡ q
 sound_at_unique k fs r q = only
 
-pub check_at_unique : (k : Kept) (fs xs : List Float) (r q : Refusal) → r ≡ check_of (state_at k fs) xs → q ≡ check_of (state_at k fs) xs → r ≡ q
+pub check_at_unique : (k : Kept) (fs xs : List Float) (r q : Result ⊤ Refusal) → r ≡ check_of (state_at k fs) xs → q ≡ check_of (state_at k fs) xs → r ≡ q
 check_at_unique k fs xs r q = only
 
 -- of what `hear_at` heard, all but where the carry stood among the values, which is gone
 module _ (finish : Bool) (k : Kept) (fs xs : List Float) (room : ℕ) where
-  pub refusal_unique : (r q : Refusal) → r ≡ (ran_of finish (state_at k fs) xs room).refusal → q ≡ (ran_of finish (state_at k fs) xs room).refusal → r ≡ q
-  refusal_unique r q = only
-
-  pub tally_unique : (r q : Tally) → r ≡ (ran_of finish (state_at k fs) xs room).tally → q ≡ (ran_of finish (state_at k fs) xs room).tally → r ≡ q
-  tally_unique r q = only
+  pub outcome_unique : (r q : Result Heard Refusal) → tallied r ≡ (ran_of finish (state_at k fs) xs room).outcome → tallied q ≡ (ran_of finish (state_at k fs) xs room).outcome → tallied r ≡ tallied q
+  outcome_unique r q = only
 
   pub kept_unique : (r q : Kept) → r ≡ (ran_of finish (state_at k fs) xs room).detector.kept → q ≡ (ran_of finish (state_at k fs) xs room).detector.kept → r ≡ q
   kept_unique r q = only

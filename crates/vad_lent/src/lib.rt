@@ -2,13 +2,13 @@
 
 #![tactic(auto)]
 
-ghost use Rattle.std.specs.Prelude.{◌≡◌, true, ◌+◌, ◌≤◌, length, take, drop};
+ghost use Rattle.std.specs.Prelude.{◌≡◌, true, ◌+◌, ◌≤◌, length, take, drop, IfOk};
 ghost use Rattle.vad_layout.specs.Layout.{carry_first, warmup_first, singles_first};
 ghost use Rattle.ranges.specs.Sizes.{frame_most, warmup_most, block_most, received_most};
 ghost use Rattle.vad_state.specs.State.{sound_of};
-ghost use Rattle.vad_call.specs.Calls.{values_most, energies_most, ran_of, written_of};
+ghost use Rattle.vad_call.specs.Calls.{values_most, energies_most, ran_of, written_of, tallied, PartsFit};
 ghost use Rattle.vad_call.specs.Checks.{check_of};
-ghost use Rattle.vad_lent.specs.Inside.{put_in, settled_in};
+ghost use Rattle.vad_lent.specs.Inside.{put_in, heard_in, settled_in};
 ghost use Rattle.vad_lent.specs.Lent.{state_at, arrays_in};
 
 use refusals::Refusal;
@@ -47,7 +47,7 @@ pub fn sound_at(kept: Kept, floats: &[f32]) -> bool
 }
 
 // 19, 15, 16 and 17, in this order.
-pub fn check_at(kept: Kept, floats: &[f32], samples: &[f32]) -> Refusal
+pub fn check_at(kept: Kept, floats: &[f32], samples: &[f32]) -> Result<(), Refusal>
     requires { singles_first ≤ length floats.now }
     ensures { result ≡ check_of (state_at kept floats.now) samples.now }
 {
@@ -71,7 +71,7 @@ fn put_arrays(floats: &mut [f32], frame_length: usize, carry: &[f32], held: &[f3
 }
 
 // The arrays after a call that was not refused: the new carry stands among its values, what is held first among its energies.
-fn settle_at(
+fn put_heard(
     floats: &mut [f32],
     frame_length: usize,
     heard: Heard,
@@ -79,12 +79,9 @@ fn settle_at(
     energies: &[f32],
 )
     requires singles_first_in_bounds { (singles_first ≤ length floats.old) × (frame_length ≤ frame_most) × (length values.now ≡ values_most) × (length energies.now ≡ energies_most) }
-    requires carry_len_bound { heard.refusal.number ≡ 0 → (heard.consumed + heard.kept.stream.carry_len ≤ values_most) × (heard.kept.stream.carry_len ≤ frame_most) × (heard.kept.desk.held ≤ warmup_most) }
-    ensures { floats.new ≡ settled_in frame_length heard values.now energies.now floats.old }
+    requires carry_len_bound { PartsFit heard }
+    ensures { floats.new ≡ heard_in frame_length heard values.now energies.now floats.old }
 {
-    if heard.refusal.number != 0 {
-        return;
-    }
     let consumed = heard.consumed;
     let total = consumed + heard.kept.stream.carry_len;
     let held = heard.kept.desk.held;
@@ -96,6 +93,24 @@ fn settle_at(
     );
 }
 
+#[tactic(auto, unfolding(crate::specs::Inside::settled_in))]
+fn settle_at(
+    floats: &mut [f32],
+    frame_length: usize,
+    hearing: Result<Heard, Refusal>,
+    values: &[f32],
+    energies: &[f32],
+)
+    requires singles_first_in_bounds { (singles_first ≤ length floats.old) × (frame_length ≤ frame_most) × (length values.now ≡ values_most) × (length energies.now ≡ energies_most) }
+    requires carry_len_bound { IfOk hearing PartsFit }
+    ensures { floats.new ≡ settled_in frame_length hearing values.now energies.now floats.old }
+{
+    match hearing {
+        Err(_) => {}
+        Ok(heard) => put_heard(floats, frame_length, heard, values, energies),
+    }
+}
+
 // A block heard, or with `finish` the stream's end. Nothing is written where the rows do not fit.
 pub fn hear_at(
     kept: Kept,
@@ -103,16 +118,16 @@ pub fn hear_at(
     samples: &[f32],
     finish: bool,
     rows: &mut [u64],
-) -> Heard
+) -> Result<Heard, Refusal>
     requires floats_value { sound_of (state_at kept floats.old) ≡ true }
     requires singles_first_in_bounds { (singles_first ≤ length floats.old) × (length samples.now ≤ block_most) × (kept.stream.processed_samples + length samples.now ≤ received_most) }
-    ensures refusal_value { (result.refusal ≡ (ran_of finish (state_at kept floats.old) samples.now (length rows.old)).refusal) × (result.tally ≡ (ran_of finish (state_at kept floats.old) samples.now (length rows.old)).tally) × (result.kept ≡ (ran_of finish (state_at kept floats.old) samples.now (length rows.old)).detector.kept) }
+    ensures refusal_value { (tallied result ≡ (ran_of finish (state_at kept floats.old) samples.now (length rows.old)).outcome) × IfOk result (λ h. h.kept ≡ (ran_of finish (state_at kept floats.old) samples.now (length rows.old)).detector.kept) }
     ensures floats_left { floats.new ≡ arrays_in (ran_of finish (state_at kept floats.old) samples.now (length rows.old)).detector floats.old }
     ensures rows_left { rows.new ≡ written_of finish (state_at kept floats.old) samples.now rows.old }
 {
     let mut values = [0.0; VALUES_MOST];
     let mut energies = [0.0; ENERGIES_MOST];
-    let heard = hear(
+    let hearing = hear(
         kept,
         window_in(floats),
         carry_in(floats),
@@ -126,9 +141,9 @@ pub fn hear_at(
     settle_at(
         floats,
         kept.rules.lengths.frame_length,
-        heard,
+        hearing,
         &values,
         &energies,
     );
-    heard
+    hearing
 }

@@ -1,48 +1,25 @@
--- What the tests of the memory say, and its parts as the code reads them. Assumes nothing.
-use mathlib.Core.Path.{◌≡◌, ap, ◌∙◌}
+-- What the tests of the memory say, as facts, and how long a part is. Assumes nothing.
+use mathlib.Core.Path.{◌≡◌}
 use mathlib.Core.Bool.{true, ◌&&◌}
-use mathlib.Core.List.{List, ◌++◌, append-nil}
-use Prim.Native.Nat.{ℕ, ◌+◌, ◌-◌, ◌≤◌, ◌<◌}
+use mathlib.Core.List.{List}
+use Prim.Native.Nat.{ℕ, ◌+◌, ◌≤◌, ◌<◌}
 use native.Mathlib.Omega.{arith}
-use lib.Dec.{ltb, leb, eqb}
-use lib.ListN.{length, take, drop, replicate, length-drop}
-use lib.Seq.{sets, length-take-le}
+use lib.Dec.{leb, ltb, eqb}
+use lib.ListN.{length, take, drop, length-drop}
+use lib.Seq.{length-take-le}
 use lib.Ieee.{Float}
-use borrow.Author.Tests.{ltb-true, leb-true, le-leb, eqb-true, eq-eqb}
+use borrow.Author.Tests.{leb-true, ltb-true, le-leb, eqb-true, eq-eqb}
 use Rattle.lists.proofs.Tests.{both}
 use Rattle.vad_layout.specs.Layout.{layout_name, numbers_most, floats_most}
 use Rattle.vad_layout.proofs.InNumbers as in-numbers
-use Rattle.vad_layout.proofs.InFloats as in-floats
-use Rattle.float.specs.Numbers.{zero32}
-use Rattle.ranges.specs.Sizes.{frame_most, warmup_most}
-use Rattle.vad_state.specs.Arrays.{filled_of}
-use Rattle.vad_state.proofs.Fills.{put_filled}
 use Rattle.vad_memory.specs.DetectorState.{word_at, long_enough, readable}
 
--- a place by a test of two numerals: at a need this is cheaper than a search among all that is known there
+-- below a bound that is below another
 pub within : {i n m : ℕ} → n ≤ m → ltb i n ≡ true → i < m
 within {i} {n} h t = let l = ltb-true i n t in omega arith
 
--- an array that is filled to its end
-pub filled_whole : (n : ℕ) (xs : List Float) → length xs ≡ n → filled_of n xs ≡ xs
-unfolding filled_of
-filled_whole n xs h = let e : n - length xs ≡ 0 = omega arith in ap (λ (k : ℕ). xs ++ replicate k zero32) e ∙ append-nil xs
-
 pub part_length : (fs : List Float) (n at : ℕ) → at + n ≤ length fs → length (take n (drop at fs)) ≡ n
 part_length fs n at h = let long = length-drop at fs in length-take-le n (drop at fs) (omega arith)
-
--- a part as the code's `&floats[at..at + FRAME_MOST]` reads, copied to an array
-pub part_filled : (fs : List Float) (at : ℕ) → at + frame_most ≤ length fs → filled_of frame_most (take (at + frame_most - at) (drop at fs)) ≡ take frame_most (drop at fs)
-part_filled fs at h =
-    let e : at + frame_most - at ≡ frame_most = omega arith in
-    ap (λ (k : ℕ). filled_of frame_most (take k (drop at fs))) e ∙ filled_whole frame_most (take frame_most (drop at fs)) (part_length fs frame_most at h)
-
--- the same for the energies held
-pub warmup_filled : (fs : List Float) → floats_most ≤ length fs → sets (replicate warmup_most zero32) 0 (take warmup_most (drop in-floats.warmup fs)) ≡ take warmup_most (drop in-floats.warmup fs)
-warmup_filled fs h =
-    let part = take warmup_most (drop in-floats.warmup fs) in
-    let long : length part ≡ warmup_most = part_length fs warmup_most in-floats.warmup (omega arith) in
-    put_filled warmup_most part (omega arith) ∙ filled_whole warmup_most part long
 
 -- ---- the tests, both ways
 

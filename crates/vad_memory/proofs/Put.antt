@@ -1,57 +1,78 @@
 -- Numbers put into memory, and the parts of a detector after one another. Assumes nothing.
 use mathlib.Core.Path.{◌≡◌, refl, sym, ap, ◌∙◌}
-use mathlib.Core.List.{List, [], ◌++◌, append_assoc, append-nil}
-use Prim.Native.Nat.{ℕ, ◌+◌, ◌-◌, ◌≤◌}
+use mathlib.Core.List.{List, ◌++◌, append_assoc}
+use Prim.Native.Nat.{ℕ, ◌+◌, ◌≤◌}
 use native.Mathlib.Omega.{arith}
 use lib.ListN.{length, take, drop, length-append, length-drop}
-use lib.Seq.{sets, sets-eq, drop-drop, take_at, drop_at, take-length, drop-length}
+use lib.Seq.{sets, sets-eq, drop-drop, take_at, drop_at}
 use lib.Ieee.{Float}
-use Rattle.lists.proofs.Stores.{sets_all, sets_append}
+use mir.Val.{bool_byte}
+use Rattle.std.specs.Prelude.{None, Option, Some, is_some}
+use Rattle.std.specs.Option.{unwrap_or}
+use Rattle.float.specs.Numbers.{zero32}
+use Rattle.lists.proofs.Stores.{sets_all}
 use Rattle.vad_layout.specs.Layout.{numbers_most, floats_most}
 use Rattle.vad_layout.proofs.InFloats as in-floats
 use Rattle.ranges.specs.Sizes.{frame_most, warmup_most}
+use Rattle.vad_segments.specs.Judging.{begun_at, segment_for}
+use Rattle.vad_segments.specs.declared.ActiveSegmentState.{ActiveSegmentState}
 use Rattle.vad_state.specs.declared.Kept.{Kept}
 use Rattle.vad_state.specs.declared.VadDetector.{VadDetector}
 use Rattle.vad_call.specs.declared.Tally.{Tally}
-use Rattle.vad_memory.specs.DetectorState.{tally_numbers, rule_numbers, stream_numbers, active_numbers, desk_numbers, numbers_of, singles_of, floats_of, numbers_written, floats_written}
+use Rattle.vad_memory.specs.DetectorState.{tally_numbers, rule_numbers, stream_numbers, active_numbers, desk_numbers, open_word, shown_of, numbers_of, singles_of, floats_of, numbers_written, floats_written}
 
--- ---- floats, from a place on
+-- ---- floats put at a place
 
-module _ (to xs last : List Float) (at : ℕ) where
-  -- what is lent is all past the place
-  pub put_from : at + length xs ≤ length to → last ≡ sets (take (length to - at) (drop at to)) 0 xs
-      → take at to ++ (last ++ drop (length to - at) (drop at to)) ≡ sets to at xs
-  put_from h l =
-      let rest = drop at to in
-      let long = length-drop at to in
-      let count : length to - at ≡ length rest = sym long in
-      let lent : take (length to - at) rest ≡ rest = ap (λ (k : ℕ). take k rest) count ∙ take-length rest in
-      let none : drop (length to - at) rest ≡ [] = ap (λ (k : ℕ). drop k rest) count ∙ drop-length rest in
-      let more : last ≡ xs ++ drop (length xs) rest = l ∙ ap (λ (r : List Float). sets r 0 xs) lent ∙ sets_all rest xs (omega arith) in
-      ap (λ (ys : List Float). take at to ++ (last ++ ys)) none
-      ∙ ap (λ (ys : List Float). take at to ++ ys) (append-nil last ∙ more ∙ ap (λ (ys : List Float). xs ++ ys) (drop-drop (length xs) at to))
-      ∙ sym (append_assoc (take at to) xs (drop (at + length xs) to))
-      ∙ sym (sets-eq xs to at h)
+-- a part that is lent and written whole
+pub put_at : (to x xs : List Float) (at : ℕ) {n : ℕ} → x ≡ xs → length xs ≡ n → at + n ≤ length to → take at to ++ (x ++ drop n (drop at to)) ≡ sets to at xs
+put_at to x xs at {n} e count room =
+    ap (λ (l : List Float). take at to ++ (l ++ drop n (drop at to))) e
+    ∙ ap (λ (l : List Float). take at to ++ (xs ++ l)) (drop-drop n at to ∙ ap (λ (k : ℕ). drop (at + k) to) (sym count))
+    ∙ sym (append_assoc (take at to) xs (drop (at + length xs) to))
+    ∙ sym (sets-eq xs to at (omega arith))
 
 -- one part after another
-pub three_parts : (to a b c x y last : List Float) → length a ≡ frame_most → length b ≡ frame_most → length c ≡ warmup_most → in-floats.singles ≤ length to
-    → x ≡ sets to in-floats.window a → y ≡ sets x in-floats.carry b → last ≡ sets y in-floats.warmup c
-    → last ≡ a ++ (b ++ (c ++ drop in-floats.singles to))
-three_parts to a b c x y last la lb lc room ex ey el =
-    let ab : 0 + length a ≡ in-floats.carry = omega arith in
-    let bc : in-floats.carry + length b ≡ in-floats.warmup = omega arith in
-    let inner = length-append b c in
-    let outer = length-append a (b ++ c) in
-    let count : length (a ++ (b ++ c)) ≡ in-floats.singles = omega arith in
-    let put : last ≡ sets (sets (sets to 0 a) in-floats.carry b) in-floats.warmup c = el ∙ ap (λ (l : List Float). sets l in-floats.warmup c) (ey ∙ ap (λ (l : List Float). sets l in-floats.carry b) ex) in
-    let one = sets_append to 0 a (b ++ c) ∙ ap (λ (k : ℕ). sets (sets to 0 a) k (b ++ c)) ab in
-    let two = sets_append (sets to 0 a) in-floats.carry b c ∙ ap (λ (k : ℕ). sets (sets (sets to 0 a) in-floats.carry b) k c) bc in
-    put
-    ∙ sym (one ∙ two)
-    ∙ sets_all to (a ++ (b ++ c)) (omega arith)
-    ∙ ap (λ (k : ℕ). (a ++ (b ++ c)) ++ drop k to) count
-    ∙ append_assoc a (b ++ c) (drop in-floats.singles to)
-    ∙ ap (λ (ys : List Float). a ++ ys) (append_assoc b c (drop in-floats.singles to))
+module _ (to a b c x y z : List Float) where
+  abbrev first : List Float
+  first = x ++ drop frame_most to
+
+  abbrev second : List Float
+  second = take in-floats.carry first ++ (y ++ drop frame_most (drop in-floats.carry first))
+
+  pub three_parts : length a ≡ frame_most → length b ≡ frame_most → length c ≡ warmup_most → in-floats.singles ≤ length to
+      → x ≡ a → y ≡ b → z ≡ c
+      → take in-floats.warmup second ++ (z ++ drop warmup_most (drop in-floats.warmup second)) ≡ a ++ (b ++ (c ++ drop in-floats.singles to))
+  three_parts la lb lc room ex ey ez =
+      let rest = drop frame_most to in
+      let x_long : length x ≡ frame_most = ap length ex ∙ la in
+      let y_long : length y ≡ frame_most = ap length ey ∙ lb in
+      let joined = length-append x y in
+      let two : length (x ++ y) ≡ in-floats.warmup = omega arith in
+      let far = drop in-floats.warmup to in
+      let both : second ≡ (x ++ y) ++ far =
+      ap (λ (l : List Float). l ++ (y ++ drop frame_most (drop in-floats.carry first))) (take_at x rest in-floats.carry x_long)
+      ∙ ap (λ (l : List Float). x ++ (y ++ drop frame_most l)) (drop_at x rest in-floats.carry x_long)
+      ∙ ap (λ (l : List Float). x ++ (y ++ l)) (drop-drop frame_most frame_most to)
+      ∙ sym (append_assoc x y far) in
+      let front : take in-floats.warmup second ≡ x ++ y = ap (take in-floats.warmup) both ∙ take_at (x ++ y) far in-floats.warmup two in
+      let back : drop in-floats.warmup second ≡ far = ap (drop in-floats.warmup) both ∙ drop_at (x ++ y) far in-floats.warmup two in
+      ap (λ (l : List Float). l ++ (z ++ drop warmup_most (drop in-floats.warmup second))) front
+      ∙ ap (λ (l : List Float). (x ++ y) ++ (z ++ l)) (ap (drop warmup_most) back ∙ drop-drop warmup_most in-floats.warmup to)
+      ∙ append_assoc x y (z ++ drop in-floats.singles to)
+      ∙ rw (ex, ey, ez) refl
+
+-- ---- the open segment
+
+pub open_byte : (a : Option ActiveSegmentState) → bool_byte (is_some a) ≡ open_word a
+unfolding open_word
+open_byte None = refl
+open_byte (Some s) = refl
+
+pub shown_is : (a : Option ActiveSegmentState)
+    → unwrap_or a record { start_sample = 0; last_end_sample = 0; score_total = 0; energy_sum = zero32; loud_frames = 0; silence_run = 0 } ≡ shown_of a
+unfolding segment_for begun_at
+shown_is None = refl
+shown_is (Some s) = refl
 
 -- ---- the whole state
 

@@ -1,4 +1,6 @@
 -- What is written is what is read at the next call. Assumes nothing.
+use Rattle.vad_segments.specs.declared.ActiveSegmentState.{ActiveSegmentState}
+use Rattle.std.specs.Prelude.{None, Option, Some}
 use mathlib.Core.Path.{◌≡◌, refl, sym, ap, ◌∙◌}
 use mathlib.Core.Bool.{true, cond}
 use mathlib.Core.List.{List, ◌++◌, append_assoc}
@@ -13,8 +15,6 @@ use Rattle.vad_layout.proofs.InNumbers as in-numbers
 use Rattle.vad_layout.proofs.InFloats as in-floats
 use Rattle.vad_config.specs.declared.VadConfig.{VadConfig}
 use Rattle.vad_segments.specs.Judging.{segment_for}
-use Rattle.vad_segments.specs.declared.ActiveSegment.{ActiveSegment}
-use Rattle.vad_segments.specs.declared.ActiveSegment.TheVariants.{Closed, Open}
 use Rattle.ranges.specs.Sizes.{frame_most, warmup_most}
 use Rattle.vad_state.specs.declared.VadDetector.{VadDetector}
 use Rattle.vad_call.specs.declared.Tally.{Tally}
@@ -56,16 +56,16 @@ config_from c ns fs e0 e1 e2 e3 e4 e5 e6 f0 f1 f2 f3 f4 f5 f6 =
     let flag : flag_at ns in-numbers.has_pre_emphasis_in ≡ c.has_pre_emphasis = ap (λ (w : ℕ). eqb w 1) e2 ∙ flag_back c.has_pre_emphasis in
     rw (e0, e1, flag, e3, e4, e5, e6, f0, f1, f2, f3, f4, f5, f6) refl
 
-active_is : (a : ActiveSegment) → cond (eqb (open_word a) 1) (Open (shown_of a)) Closed ≡ a
+active_is : (a : Option ActiveSegmentState) → cond (eqb (open_word a) 1) (Some (shown_of a)) None ≡ a
 unfolding open_word segment_for
-active_is Closed = refl
-active_is (Open s) = refl
+active_is None = refl
+active_is (Some s) = refl
 
 -- a flag of the track too
-active_small : (a : ActiveSegment) → open_word a ≤ 1
+active_small : (a : Option ActiveSegmentState) → open_word a ≤ 1
 unfolding open_word
-active_small Closed = omega arith
-active_small (Open s) = omega arith
+active_small None = omega arith
+active_small (Some s) = omega arith
 
 -- ---- the floats, one part after another
 module _ (w c h s rest : List Float) (lw : length w ≡ frame_most) (lc : length c ≡ frame_most) (lh : length h ≡ warmup_most) where
@@ -95,7 +95,7 @@ module _ (w c h s rest : List Float) (lw : length w ≡ frame_most) (lc : length
 
 -- ---- the whole
 module _ (d : VadDetector) (t : Tally) (ns : List ℕ) (fs : List Float) where
-  abbrev segment : ActiveSegment
+  abbrev segment : Option ActiveSegmentState
   segment = d.kept.desk.track.active_segment
 
   abbrev words : List ℕ

@@ -1,5 +1,5 @@
 -- The detector's state as the host keeps it: numbers of 64 bits and floats, laid out as vad_layout says. A flag is 0 or 1; of a segment zeros stand where none is open.
-use Rattle.std.specs.Prelude.{Bool, ◌&&◌, cond, List, [], ◌∷◌, ◌++◌, ℕ, leb, eqb, length, take, drop, get_or, Float}
+use Rattle.std.specs.Prelude.{Bool, ◌&&◌, cond, List, [], ◌∷◌, ◌++◌, ℕ, leb, eqb, length, take, drop, get_or, Float, None, Option, Some}
 use Rattle.std.specs.Float.{nan}
 use Rattle.vad_layout.specs.Layout.{layout_name, numbers_most, floats_most, carry_first, warmup_first}
 use Rattle.lists.specs.Flags.{flag_at, flag_word}
@@ -8,8 +8,6 @@ use Rattle.vad_config.specs.declared.Lengths.{Lengths}
 use Rattle.vad_segments.specs.Judging.{segment_for}
 use Rattle.vad_segments.specs.declared.Rules.{Rules}
 use Rattle.vad_segments.specs.declared.ActiveSegmentState.{ActiveSegmentState}
-use Rattle.vad_segments.specs.declared.ActiveSegment.{ActiveSegment}
-use Rattle.vad_segments.specs.declared.ActiveSegment.TheVariants.{Closed, Open}
 use Rattle.vad_segments.specs.declared.Track.{Track}
 use Rattle.ranges.specs.Sizes.{frame_most, warmup_most}
 use Rattle.vad_state.specs.State.{state_of}
@@ -81,8 +79,8 @@ segment_at ns fs =
       silence_run = word_at ns 29;
     }
 
-unfoldable pub active_at : List ℕ → List Float → ActiveSegment
-active_at ns fs = cond (flag_at ns 24) (Open (segment_at ns fs)) Closed
+unfoldable pub active_at : List ℕ → List Float → Option ActiveSegmentState
+active_at ns fs = cond (flag_at ns 24) (Some (segment_at ns fs)) None
 
 unfoldable pub track_at : List ℕ → List Float → Track
 track_at ns fs =
@@ -137,15 +135,15 @@ rule_numbers r =
 unfoldable pub stream_numbers : Stream → List ℕ
 stream_numbers s = s.carry_len ∷ s.carry_start ∷ s.processed_samples ∷ []
 
-unfoldable pub open_word : ActiveSegment → ℕ
-open_word Closed = 0
-open_word (Open s) = 1
+unfoldable pub open_word : Option ActiveSegmentState → ℕ
+open_word None = 0
+open_word (Some s) = 1
 
 -- the open segment, or one of zeros
-abbrev pub shown_of : ActiveSegment → ActiveSegmentState
+abbrev pub shown_of : Option ActiveSegmentState → ActiveSegmentState
 shown_of a = segment_for a 0
 
-unfoldable pub active_numbers : ActiveSegment → List ℕ
+unfoldable pub active_numbers : Option ActiveSegmentState → List ℕ
 active_numbers a =
     let s = shown_of a in
     open_word a ∷ s.start_sample ∷ s.last_end_sample ∷ s.score_total ∷ s.loud_frames ∷ s.silence_run ∷ []

@@ -1,4 +1,5 @@
 -- Rows one after the other, what they count as talk, and their order. Assumes nothing.
+use Rattle.std.specs.Prelude.{None, Option, Some}
 use mathlib.Core.Path.{◌≡◌, refl}
 use mathlib.Core.List.{List, [], ◌∷◌, ◌++◌, append_assoc, append-nil}
 use Prim.Native.Nat.{ℕ, ◌+◌, ◌-◌, ◌*◌, ◌≤◌, ◌<◌}
@@ -8,8 +9,6 @@ use lib.ListN.{length, length-append}
 use Rattle.lists.specs.Every.{Every}
 use Rattle.vad_row.specs.Rows.{fields_of, row_width, room_of, flat, reported, talk_in, talk_of, InOrder}
 use Rattle.vad_row.specs.declared.Row.{Row}
-use Rattle.vad_row.specs.declared.Report.{Report}
-use Rattle.vad_row.specs.declared.Report.TheVariants.{NoRow, OneRow}
 
 -- ---- rows as numbers
 
@@ -33,16 +32,16 @@ flat_append [] b = refl
 flat_append (r ∷ a) b = rw (flat_append a b, append_assoc (fields_of r) (flat a) (flat b))
 
 -- what a frame reports
-pub report_le : (p : Report) → length (reported p) ≤ 1
+pub report_le : (p : Option Row) → length (reported p) ≤ 1
 unfolding reported
-report_le NoRow = omega arith
-report_le (OneRow r) = omega arith
+report_le None = omega arith
+report_le (Some r) = omega arith
 
-pub flat_none : flat (reported NoRow) ≡ []
+pub flat_none : flat (reported None) ≡ []
 unfolding flat reported
 flat_none = refl
 
-pub flat_row : (r : Row) → flat (reported (OneRow r)) ≡ fields_of r
+pub flat_row : (r : Row) → flat (reported (Some r)) ≡ fields_of r
 unfolding flat reported
 flat_row r = append-nil (fields_of r)
 

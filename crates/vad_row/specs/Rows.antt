@@ -1,8 +1,6 @@
 -- Document 01's rows: their fields, rows as numbers, what they count as talk, and their order.
-use Rattle.std.specs.Prelude.{List, [], ◌∷◌, ◌++◌, map, ℕ, ◌+◌, ◌-◌, ◌/◌, ◌≤◌, ◌<◌, length}
+use Rattle.std.specs.Prelude.{List, [], ◌∷◌, ◌++◌, map, ℕ, ◌+◌, ◌-◌, ◌/◌, ◌≤◌, ◌<◌, length, None, Option, Some}
 use Rattle.vad_row.specs.declared.Row.{Row}
-use Rattle.vad_row.specs.declared.Report.{Report}
-use Rattle.vad_row.specs.declared.Report.TheVariants.{NoRow, OneRow}
 
 -- ---- rows as numbers
 
@@ -34,9 +32,9 @@ flat [] = []
 flat (r ∷ rs) = fields_of r ++ flat rs
 
 -- what a frame reports, as rows
-unfoldable pub reported : Report → List Row
-reported NoRow = []
-reported (OneRow r) = r ∷ []
+unfoldable pub reported : Option Row → List Row
+reported None = []
+reported (Some r) = r ∷ []
 
 -- ---- talk
 

@@ -23,50 +23,37 @@ pub struct Row {
     pub mean_energy: u64,
 }
 
-// What a frame or a call's end reports.
-#[derive(Clone, Copy)]
-pub enum Report {
-    NoRow,
-    OneRow(Row),
-}
-
-pub fn rows_in(report: Report) -> u64
+#[tactic(auto, unfolding(crate::specs::Rows::reported))]
+pub fn rows_in(report: Option<Row>) -> u64
     ensures { result ≡ length (reported report) }
 {
-    match report {
-        Report::NoRow => 0,
-        Report::OneRow(_) => 1,
-    }
+    report.is_some() as u64
 }
 
-pub fn talk_in(report: Report) -> u64
+#[tactic(auto, unfolding(crate::specs::Rows::reported, crate::specs::Rows::talk_of))]
+pub fn talk_in(report: Option<Row>) -> u64
     ensures { result ≡ talk_of (reported report) }
 {
-    match report {
-        Report::NoRow => 0,
-        Report::OneRow(row) => talk_of(row),
-    }
+    report.map_or(0, talk_of)
 }
 
 // The one place where talk is counted.
+#[tactic(auto, unfolding(crate::specs::Rows::talk_in))]
 fn talk_of(row: Row) -> u64
     ensures { result ≡ talk_in row }
 {
-    if row.end_sample <= row.start_sample {
-        return 0;
-    }
-    row.end_sample - row.start_sample
+    row.end_sample.saturating_sub(row.start_sample)
 }
 
 // The report's row, if there is one, from a place on; answers the place after it.
-pub fn put_report(rows: &mut [u64], at: usize, report: Report) -> usize
+pub fn put_report(rows: &mut [u64], at: usize, report: Option<Row>) -> usize
     requires { at + length (flat (reported report)) ≤ length rows.old }
     ensures value { result ≡ at + length (flat (reported report)) }
     ensures rows_left { rows.new ≡ sets rows.old at (flat (reported report)) }
 {
     match report {
-        Report::NoRow => at,
-        Report::OneRow(row) => put_row(rows, at, row),
+        None => at,
+        Some(row) => put_row(rows, at, row),
     }
 }
 
@@ -80,6 +67,7 @@ fn put_row(rows: &mut [u64], at: usize, row: Row) -> usize
 }
 
 // In the order of `fields`.
+#[tactic(auto, unfolding(crate::specs::Rows::fields_of))]
 fn numbers_of(row: Row) -> [u64; ROW_FIELDS]
     ensures { result ≡ fields_of row }
 {

@@ -1,4 +1,6 @@
 -- What the original answered in one small run, computed from the definitions call by call. `rows_of_segments` in the oracle's tests runs the original and holds `energies`, `calls`, `answers` and `positions` to it; the scores alone are the port's own.
+use Rattle.vad_segments.specs.declared.ActiveSegmentState.{ActiveSegmentState}
+use Rattle.std.specs.Prelude.{None, Option, Some}
 use mathlib.Core.Path.{◌≡◌, refl}
 use mathlib.Core.Bool.{false, cond}
 use mathlib.Core.List.{List, [], ◌∷◌, ◌++◌, map}
@@ -19,8 +21,6 @@ use Rattle.vad_segments.specs.Judging.{floored_to, active_to, begun_at, segment_
 use Rattle.vad_segments.specs.Positions.{next_of, decided_to, undecided_of}
 use Rattle.vad_segments.specs.declared.Rules.{Rules}
 use Rattle.vad_segments.specs.declared.Track.{Track}
-use Rattle.vad_segments.specs.declared.ActiveSegment.{ActiveSegment}
-use Rattle.vad_segments.specs.declared.ActiveSegment.TheVariants.{Closed, Open}
 use Rattle.vad_classify.specs.Classify.{classified_of}
 
 -- 8 kHz, frames of 2 ms, overlap 0.5, activation 3, release 2, gate 0.004, smoothing 0.5, floor 2^-7, hangover 1, minimum 3, padding 3 ms
@@ -156,10 +156,10 @@ tracks =
     ∷ (1006632960 ∷ 352 ∷ 4 ∷ 264 ∷ [])
     ∷ []
 
-abbrev pub segment_from : List ℕ → ActiveSegment
+abbrev pub segment_from : List ℕ → Option ActiveSegmentState
 segment_from ws =
-    cond (eqb (length ws) 4) Closed
-    (Open
+    cond (eqb (length ws) 4) None
+    (Some
     record {
       start_sample = get_or ws 4 0;
       last_end_sample = get_or ws 5 0;
@@ -174,9 +174,9 @@ track_from ws =
     let floor = of_bits binary32 (get_or ws 0 0) in
     framed_to floor (segment_from ws) (booked_to (get_or ws 1 0) (get_or ws 2 0) (get_or ws 3 0) (fresh_track floor))
 
-abbrev pub segment_words : ActiveSegment → List ℕ
-segment_words Closed = []
-segment_words (Open s) =
+abbrev pub segment_words : Option ActiveSegmentState → List ℕ
+segment_words None = []
+segment_words (Some s) =
     s.start_sample ∷ s.last_end_sample ∷ s.score_total ∷ to_bits binary32 s.energy_sum ∷ s.loud_frames ∷ s.silence_run ∷ []
 
 abbrev pub track_words : Track → List ℕ

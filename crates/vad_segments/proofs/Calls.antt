@@ -1,4 +1,5 @@
 -- What a frame's parts come to, over plain variables. Assumes nothing.
+use Rattle.std.specs.Prelude.{Some}
 use mathlib.Core.Path.{◌≡◌}
 use mathlib.Core.Bool.{Bool, ◌&&◌}
 use Prim.Native.Nat.{ℕ, ◌≤◌, ◌<◌}
@@ -14,7 +15,6 @@ use Rattle.vad_segments.specs.declared.Track.{Track}
 use Rattle.vad_config.specs.declared.VadConfig.{VadConfig}
 use Rattle.vad_segments.specs.declared.ActiveSegmentState.{ActiveSegmentState}
 use Rattle.vad_row.specs.declared.Row.{Row}
-use Rattle.vad_row.specs.declared.Report.TheVariants.{OneRow}
 
 pub judged_is : (r : Rules) (limit : ℕ) (t : Track) (f : FrameMetrics) (required weight floor : Float) (loud speech : Bool)
     → required ≡ required_of r.config t.active_segment
@@ -33,6 +33,6 @@ module _ (c : VadConfig) (limit prev start end : ℕ) (s : ActiveSegmentState) (
   unfolding timed_of
   timed_dropped h = rw (← x, ← y, le-leb a b h)
 
-  pub timed_row : b < a → (k : Row) → k ≡ row_of c start end s → record { end = end; report = OneRow k } ≡ timed_of c limit prev start end s
+  pub timed_row : b < a → (k : Row) → k ≡ row_of c start end s → record { end = end; report = Some k } ≡ timed_of c limit prev start end s
   unfolding timed_of
   timed_row h k e = rw (e, ← x, ← y, lt-leb a b h)

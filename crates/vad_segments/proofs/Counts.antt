@@ -1,4 +1,5 @@
 -- What is counted while frames are judged: loud frames, their scores, the silence run; and that a segment stays open only while a loud frame is recent. Assumes nothing.
+use Rattle.std.specs.Prelude.{None, Option, Some}
 use mathlib.Core.Path.{◌≡◌, refl, sym, ap, ◌∙◌, subst}
 use mathlib.Core.Bool.{Bool, true, false, not}
 use mathlib.Core.List.{List, [], ◌∷◌, map, reverse_aux}
@@ -15,8 +16,6 @@ use Rattle.vad_segments.specs.Judging.{floored_to, begun_at, segment_for, extend
 use Rattle.vad_segments.specs.declared.Rules.{Rules}
 use Rattle.vad_segments.specs.declared.FrameMetrics.{FrameMetrics}
 use Rattle.vad_segments.specs.declared.ActiveSegmentState.{ActiveSegmentState}
-use Rattle.vad_segments.specs.declared.ActiveSegment.{ActiveSegment}
-use Rattle.vad_segments.specs.declared.ActiveSegment.TheVariants.{Closed, Open}
 use Rattle.vad_segments.specs.declared.Track.{Track}
 use Rattle.lists.proofs.Every.{every_all}
 use Rattle.vad_row.proofs.Laws.{report_le}
@@ -29,25 +28,25 @@ abbrev pub SegmentCounted : ℕ → ActiveSegmentState → Type 0
 SegmentCounted hangover s = (s.score_total ≤ 1024 * s.loud_frames) × (1 ≤ s.loud_frames) × (s.silence_run ≤ hangover)
 
 -- if one is open
-abbrev pub ActiveCounted : ℕ → ActiveSegment → Type 0
-ActiveCounted hangover Closed = Unit {0}
-ActiveCounted hangover (Open s) = SegmentCounted hangover s
+abbrev pub ActiveCounted : ℕ → Option ActiveSegmentState → Type 0
+ActiveCounted hangover None = Unit {0}
+ActiveCounted hangover (Some s) = SegmentCounted hangover s
 
 -- the loud frames of the open segment, and 0 where none is open
-abbrev pub count_in : ActiveSegment → ℕ
-count_in Closed = 0
-count_in (Open s) = s.loud_frames
+abbrev pub count_in : Option ActiveSegmentState → ℕ
+count_in None = 0
+count_in (Some s) = s.loud_frames
 
-extended_counted : (hangover start : ℕ) (f : FrameMetrics) (ratio : Float) (a : ActiveSegment) → ActiveCounted hangover a → SegmentCounted hangover (extended_by f ratio (segment_for a start))
+extended_counted : (hangover start : ℕ) (f : FrameMetrics) (ratio : Float) (a : Option ActiveSegmentState) → ActiveCounted hangover a → SegmentCounted hangover (extended_by f ratio (segment_for a start))
 unfolding extended_by segment_for begun_at
-extended_counted hangover start f ratio Closed h = (omega (arith, score_le ratio), omega arith, omega arith)
-extended_counted hangover start f ratio (Open s) h = (omega (arith, score_le ratio, h.0), omega arith, omega arith)
+extended_counted hangover start f ratio None h = (omega (arith, score_le ratio), omega arith, omega arith)
+extended_counted hangover start f ratio (Some s) h = (omega (arith, score_le ratio, h.0), omega arith, omega arith)
 
 -- a quiet frame in speech
-paused_counted : (hangover : ℕ) (a : ActiveSegment) → in_speech_of hangover a false ≡ true → ActiveCounted hangover a → ActiveCounted hangover (paused_by a)
+paused_counted : (hangover : ℕ) (a : Option ActiveSegmentState) → in_speech_of hangover a false ≡ true → ActiveCounted hangover a → ActiveCounted hangover (paused_by a)
 unfolding in_speech_of paused_by
-paused_counted hangover Closed e h = tt
-paused_counted hangover (Open s) e h = (h.0, h.1, leb-true (suc s.silence_run) hangover e)
+paused_counted hangover None e h = tt
+paused_counted hangover (Some s) e h = (h.0, h.1, leb-true (suc s.silence_run) hangover e)
 
 -- a frame keeps these
 pub judged_counted : (r : Rules) (limit : ℕ) (t : Track) (f : FrameMetrics) → ActiveCounted r.config.hangover_frames t.active_segment → ActiveCounted r.config.hangover_frames (judged_of r limit t f).track.active_segment
@@ -68,15 +67,15 @@ unfolding call_track
 call_counted finish r limit t fs h = ended_active (ActiveCounted r.config.hangover_frames) finish r limit (track_after r limit t fs) tt (after_counted r limit fs t h)
 
 -- ---- what a frame adds
-extended_grows : (start : ℕ) (f : FrameMetrics) (ratio : Float) (a : ActiveSegment) → count_in (Open (extended_by f ratio (segment_for a start))) ≤ suc (count_in a)
+extended_grows : (start : ℕ) (f : FrameMetrics) (ratio : Float) (a : Option ActiveSegmentState) → count_in (Some (extended_by f ratio (segment_for a start))) ≤ suc (count_in a)
 unfolding extended_by segment_for begun_at
-extended_grows start f ratio Closed = le_refl 1
-extended_grows start f ratio (Open s) = le_refl (suc s.loud_frames)
+extended_grows start f ratio None = le_refl 1
+extended_grows start f ratio (Some s) = le_refl (suc s.loud_frames)
 
-paused_grows : (a : ActiveSegment) → count_in (paused_by a) ≤ suc (count_in a)
+paused_grows : (a : Option ActiveSegmentState) → count_in (paused_by a) ≤ suc (count_in a)
 unfolding paused_by
-paused_grows Closed = omega arith
-paused_grows (Open s) = omega arith
+paused_grows None = omega arith
+paused_grows (Some s) = omega arith
 
 -- a frame adds one loud frame at most
 pub count_grows : (r : Rules) (limit : ℕ) (t : Track) (f : FrameMetrics) → count_in (judged_of r limit t f).track.active_segment ≤ suc (count_in t.active_segment)
@@ -113,10 +112,10 @@ call_rows_grow finish r limit t fs =
     omega (arith, rows_grow_by r limit fs t, (ended_adds finish r limit u).rows_added, report_le (ended_of finish r limit u).report)
 
 -- ---- loud frames
-closed_by_quiet : (r : Rules) (limit : ℕ) (t : Track) (a : ActiveSegment) → (closed_by r limit t a).loud ≡ false
+closed_by_quiet : (r : Rules) (limit : ℕ) (t : Track) (a : Option ActiveSegmentState) → (closed_by r limit t a).loud ≡ false
 unfolding closed_by booked_of
-closed_by_quiet r limit t Closed = refl
-closed_by_quiet r limit t (Open s) = refl
+closed_by_quiet r limit t None = refl
+closed_by_quiet r limit t (Some s) = refl
 
 turned_loud : (r : Rules) (limit : ℕ) (t : Track) (f : FrameMetrics) (ratio : Float) (loud speech : Bool) → (turned_of r limit t f ratio loud speech).loud ≡ loud
 unfolding turned_of closed_of
@@ -153,18 +152,18 @@ loud_most r limit t fs = omega (arith, loud_and_quiet r limit t fs)
 -- ---- a loud frame is recent
 
 -- flags of the frames judged so far, the latest first: an open segment's silence run stands after a loud one
-abbrev pub Recent : List Bool → ActiveSegment → Type 0
-Recent flags Closed = Unit {0}
-Recent flags (Open s) = get_or flags s.silence_run false ≡ true
+abbrev pub Recent : List Bool → Option ActiveSegmentState → Type 0
+Recent flags None = Unit {0}
+Recent flags (Some s) = get_or flags s.silence_run false ≡ true
 
-extended_recent : (flags : List Bool) (start : ℕ) (f : FrameMetrics) (ratio : Float) (a : ActiveSegment) → Recent (true ∷ flags) (Open (extended_by f ratio (segment_for a start)))
+extended_recent : (flags : List Bool) (start : ℕ) (f : FrameMetrics) (ratio : Float) (a : Option ActiveSegmentState) → Recent (true ∷ flags) (Some (extended_by f ratio (segment_for a start)))
 unfolding extended_by
 extended_recent flags start f ratio a = refl
 
-paused_recent : (flags : List Bool) (b : Bool) (a : ActiveSegment) → Recent flags a → Recent (b ∷ flags) (paused_by a)
+paused_recent : (flags : List Bool) (b : Bool) (a : Option ActiveSegmentState) → Recent flags a → Recent (b ∷ flags) (paused_by a)
 unfolding paused_by
-paused_recent flags b Closed h = tt
-paused_recent flags b (Open s) h = h
+paused_recent flags b None h = tt
+paused_recent flags b (Some s) h = h
 
 -- a frame keeps this, its own flag in front
 pub recent_step : (r : Rules) (limit : ℕ) (t : Track) (f : FrameMetrics) (flags : List Bool) → Recent flags t.active_segment → Recent ((judged_of r limit t f).loud ∷ flags) (judged_of r limit t f).track.active_segment
@@ -173,7 +172,7 @@ recent_step r limit t f flags h =
     let start = max f.start_sample t.last_segment_end in
     let ratio = ratio_of f.energy t.noise_floor in
     judged_active (Recent (b ∷ flags)) r limit t f tt
-    (λ e. subst (λ (x : Bool). Recent (x ∷ flags) (Open (extended_in t f))) (sym (loud_is r limit t f ∙ e)) (extended_recent flags start f ratio t.active_segment))
+    (λ e. subst (λ (x : Bool). Recent (x ∷ flags) (Some (extended_in t f))) (sym (loud_is r limit t f ∙ e)) (extended_recent flags start f ratio t.active_segment))
     (λ e g. paused_recent flags b t.active_segment h)
 
 -- over a call's frames: `reverse_aux` puts their flags in front, the latest first

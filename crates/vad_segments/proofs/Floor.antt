@@ -1,4 +1,6 @@
 -- The noise floor is always a number: an f32 between `energy_floor` and the greater of `energy_floor` and 2^18. The energy total of an open segment is at most 2^60. Assumes nothing.
+use Rattle.vad_segments.specs.declared.ActiveSegmentState.{ActiveSegmentState}
+use Rattle.std.specs.Prelude.{None, Option, Some}
 use mathlib.Core.Path.{◌≡◌, refl, sym, ap, ◌∙◌, subst}
 use mathlib.Core.Logic.{◌⊎◌, inl, inr, ⊎_elim}
 use mathlib.Core.Bool.{Bool, true, false, ◌&&◌, ◌||◌, cond}
@@ -18,7 +20,6 @@ use lib.Ieee.Order.{le_of_values}
 use lib.Ieee.Exact.{HasValue}
 use Rattle.float.specs.Finite.{rounded}
 use Rattle.float.specs.Fused.{fused_of}
-use Rattle.float.specs.declared.Rounded.{Rounded}
 use Rattle.float.proofs.Align.{sum_minus_zero}
 use Rattle.float.proofs.Sticky.{side}
 use Rattle.float.proofs.Bounds.{Low, Held, Yields, sign, one, low_mag, mag_size, mag_finite, low_wider, low_value, low_of_le, le_of_mag, held_small, held_own, mul_low, blend_low, absorb_low}
@@ -32,8 +33,6 @@ use Rattle.vad_segments.specs.Closing.{booked_of, closed_by, closed_of}
 use Rattle.vad_segments.specs.Judging.{floored_to, active_to, begun_at, segment_for, extended_by, loud_added, paused_by, paused_of, is_loud, is_speech, floor_after, turned_of, judged_of, track_after, ended_of, call_track}
 use Rattle.vad_segments.specs.declared.Rules.{Rules}
 use Rattle.vad_segments.specs.declared.FrameMetrics.{FrameMetrics}
-use Rattle.vad_segments.specs.declared.ActiveSegment.{ActiveSegment}
-use Rattle.vad_segments.specs.declared.ActiveSegment.TheVariants.{Closed, Open}
 use Rattle.vad_segments.specs.declared.Track.{Track}
 use Rattle.lists.specs.Every.{Every}
 use Rattle.lists.proofs.Tests.{either}
@@ -148,7 +147,7 @@ blend_minus x e n k h g =
     ∙ fused_minus x (mul binary32 y e) n k (2 ^ 17) 1 h (mul_low binary32 y e 1 1 (2 ^ 17) 1 (2 ^ 17) 1 (lit< tt) (lit< tt) (lit< tt) (held_small binary32 (2 ^ 17) (lit≤ tt)) rest_low g (lit≤ tt))
 
 -- ---- weight × floor + (1 − weight) × energy
-abbrev pub blend_of : Float → Float → Float → Rounded
+abbrev pub blend_of : Float → Float → Float → Option Float
 blend_of w x e = fused_of w x (mul binary32 (sub binary32 one32 w) e)
 
 -- what bounds a floor: a value n / k of f32 that is at least 2^18 and at least `energy_floor`, and no more than one of them
@@ -175,7 +174,7 @@ blend_found least w x e n k b t h g =
     rw one_is
     (⊎_elim (λ l. blend_low w x e n k b.some t.0 b.held b.wide l h g)
     (λ z. subst (λ (v : Float). Yields (fused_of v x (mul binary32 (sub binary32 one v) e)) (λ u. Low u n k)) (sym z)
-    (subst (λ (y : Rounded). Yields y (λ u. Low u n k)) (sym (blend_minus x e n k h g)) (blend_low plus0 x e n k b.some plus_fits b.held b.wide (lit≤ tt) h g)))
+    (subst (λ (y : Option Float). Yields y (λ u. Low u n k)) (sym (blend_minus x e n k h g)) (blend_low plus0 x e n k b.some plus_fits b.held b.wide (lit≤ tt) h g)))
     t.1)
 
 -- ---- the floor
@@ -246,10 +245,10 @@ pub floor_rules : (r : Rules) → Accepted r.config → T (fits binary32 r.confi
     → T (le half32 r.speech_floor_rise) → T (le r.speech_floor_rise one32) → FloorRules r
 floor_rules r a f s t l u = record { least = least_of r.config a f; smoothing = unit_weight r.config.noise_smoothing s a.smoothing; rise = rise_weight r.speech_floor_rise t l u }
 
-closed_by_floor : (r : Rules) (limit : ℕ) (t : Track) (a : ActiveSegment) → (closed_by r limit t a).track.noise_floor ≡ t.noise_floor
+closed_by_floor : (r : Rules) (limit : ℕ) (t : Track) (a : Option ActiveSegmentState) → (closed_by r limit t a).track.noise_floor ≡ t.noise_floor
 unfolding closed_by booked_of
-closed_by_floor r limit t Closed = refl
-closed_by_floor r limit t (Open s) = refl
+closed_by_floor r limit t None = refl
+closed_by_floor r limit t (Some s) = refl
 
 -- closing leaves the floor
 pub closed_floor : (r : Rules) (limit : ℕ) (t : Track) → (closed_of r limit t).track.noise_floor ≡ t.noise_floor
@@ -320,29 +319,29 @@ abbrev pub EnergyHeld : Float → Type 0
 EnergyHeld x = T (fits binary32 x) × Low x (2 ^ 60) 1
 
 -- if one is open
-abbrev pub ActiveHeld : ActiveSegment → Type 0
-ActiveHeld Closed = Unit {0}
-ActiveHeld (Open s) = EnergyHeld s.energy_sum
+abbrev pub ActiveHeld : Option ActiveSegmentState → Type 0
+ActiveHeld None = Unit {0}
+ActiveHeld (Some s) = EnergyHeld s.energy_sum
 
 zero_held : EnergyHeld (of_bits binary32 0)
 unfolding of_bits fits
 zero_held = (tt, lit≤ tt)
 
-segment_held : (a : ActiveSegment) (start : ℕ) → ActiveHeld a → EnergyHeld (segment_for a start).energy_sum
+segment_held : (a : Option ActiveSegmentState) (start : ℕ) → ActiveHeld a → EnergyHeld (segment_for a start).energy_sum
 unfolding segment_for begun_at
-segment_held Closed start h = zero_held
-segment_held (Open s) start h = h
+segment_held None start h = zero_held
+segment_held (Some s) start h = h
 
-extended_held : (a : ActiveSegment) (start : ℕ) (f : FrameMetrics) (ratio : Float) → Low f.energy (2 ^ 17) 1 → ActiveHeld a → ActiveHeld (Open (extended_by f ratio (segment_for a start)))
+extended_held : (a : Option ActiveSegmentState) (start : ℕ) (f : FrameMetrics) (ratio : Float) → Low f.energy (2 ^ 17) 1 → ActiveHeld a → ActiveHeld (Some (extended_by f ratio (segment_for a start)))
 unfolding extended_by
 extended_held a start f ratio e h =
     let x = (segment_for a start).energy_sum in
     (add-fits binary32 x f.energy, absorb_low x f.energy (segment_held a start h).1 e)
 
-paused_held : (a : ActiveSegment) → ActiveHeld a → ActiveHeld (paused_by a)
+paused_held : (a : Option ActiveSegmentState) → ActiveHeld a → ActiveHeld (paused_by a)
 unfolding paused_by
-paused_held Closed h = tt
-paused_held (Open s) h = h
+paused_held None h = tt
+paused_held (Some s) h = h
 
 -- a frame keeps the total held
 pub energy_kept : (r : Rules) (limit : ℕ) (t : Track) (f : FrameMetrics) → EnergyIn f.energy → ActiveHeld t.active_segment → ActiveHeld (judged_of r limit t f).track.active_segment

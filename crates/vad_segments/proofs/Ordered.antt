@@ -1,4 +1,5 @@
 -- Where rows lie: times of different samples differ, a segment closes between the last segment end and the limit, and rows come in order. Assumes nothing.
+use Rattle.std.specs.Prelude.{None, Option, Some}
 use mathlib.Core.Path.{◌≡◌, refl, sym, ap, ◌∙◌, subst}
 use mathlib.Core.Bool.{Bool, true, false, ◌||◌, cond, true≢false}
 use mathlib.Core.List.{List, [], ◌∷◌, ◌++◌}
@@ -17,7 +18,6 @@ use Rattle.vad_config.specs.declared.Lengths.{Lengths}
 use Rattle.vad_config.proofs.Laws.{Accepted, time_is}
 use Rattle.vad_row.specs.Rows.{reported, talk_of}
 use Rattle.vad_row.specs.declared.Row.{Row}
-use Rattle.vad_row.specs.declared.Report.TheVariants.{NoRow, OneRow}
 use Rattle.vad_row.proofs.Laws.{Between, RowsFrom, talk_none, talk_append, between_le, between_append, between_talk, in_order_rows, in_order_starts}
 use Rattle.vad_segments.specs.Closing.{time_at, row_of, padded_start, padded_end, dropped_of, too_short, timed_of, finalized_of, booked_of, closed_by, closed_of}
 use Rattle.vad_segments.specs.Judging.{floored_to, active_to, begun_at, segment_for, extended_by, loud_added, paused_by, paused_of, is_loud, is_speech, floor_after, turned_of, judged_of, frame_at, frames_at, track_after, rows_of, ended_of, call_rows, call_track}
@@ -26,8 +26,6 @@ use Rattle.vad_segments.proofs.Rooms.{FrameWithin}
 use Rattle.vad_segments.specs.declared.Rules.{Rules}
 use Rattle.vad_segments.specs.declared.FrameMetrics.{FrameMetrics}
 use Rattle.vad_segments.specs.declared.ActiveSegmentState.{ActiveSegmentState}
-use Rattle.vad_segments.specs.declared.ActiveSegment.{ActiveSegment}
-use Rattle.vad_segments.specs.declared.ActiveSegment.TheVariants.{Closed, Open}
 use Rattle.vad_segments.specs.declared.Finalized.{Finalized}
 use Rattle.vad_segments.specs.declared.Track.{Track}
 use Rattle.vad_segments.specs.declared.Judged.{Judged}
@@ -61,19 +59,19 @@ abbrev pub SegmentOrdered : ℕ → ℕ → ActiveSegmentState → Type 0
 SegmentOrdered prev limit s = (prev ≤ s.start_sample) × (s.start_sample ≤ limit) × (s.last_end_sample ≤ limit)
 
 -- if one is open
-abbrev pub ActiveOrdered : ℕ → ℕ → ActiveSegment → Type 0
-ActiveOrdered prev limit Closed = Unit {0}
-ActiveOrdered prev limit (Open s) = SegmentOrdered prev limit s
+abbrev pub ActiveOrdered : ℕ → ℕ → Option ActiveSegmentState → Type 0
+ActiveOrdered prev limit None = Unit {0}
+ActiveOrdered prev limit (Some s) = SegmentOrdered prev limit s
 
 -- a segment closed, without the extension to start + 1 and without the test on equal times
 unfoldable pub plainly_of : Rules → ℕ → ℕ → ActiveSegmentState → Finalized
 plainly_of r limit prev s =
     let padding = r.lengths.padding_samples in
     let end = min (s.last_end_sample + padding) limit in
-    cond (too_short r.config s) (dropped_of limit prev s) (record { end = end; report = OneRow (row_of r.config (padded_start padding prev s) end s) })
+    cond (too_short r.config s) (dropped_of limit prev s) (record { end = end; report = Some (row_of r.config (padded_start padding prev s) end s) })
 
 timed_is : (c : VadConfig) (limit prev start end : ℕ) (s : ActiveSegmentState) → Accepted c → start < end → end ≤ 2 ^ 40
-    → timed_of c limit prev start end s ≡ record { end = end; report = OneRow (row_of c start end s) }
+    → timed_of c limit prev start end s ≡ record { end = end; report = Some (row_of c start end s) }
 unfolding timed_of
 timed_is c limit prev start end s a h g = rw (times_apart c start end a h g)
 
@@ -112,7 +110,7 @@ module _ (r : Rules) (limit : ℕ) (a : Accepted r.config) (g : limit ≤ 2 ^ 40
       start_lt h = unfold padded_start in omega (arith, o.0, o.1, o.2)
 
       go : (t : Bool) → (t ≡ false → s.start_sample < s.last_end_sample)
-          → cond t (dropped_of limit prev s) (timed_of r.config limit prev start (padded_end padding limit s) s) ≡ cond t (dropped_of limit prev s) (record { end = end; report = OneRow (row_of r.config start end s) })
+          → cond t (dropped_of limit prev s) (timed_of r.config limit prev start (padded_end padding limit s) s) ≡ cond t (dropped_of limit prev s) (record { end = end; report = Some (row_of r.config start end s) })
       go true f = refl
       go false f = ap (λ (e : ℕ). timed_of r.config limit prev start e s) (end_is (f refl)) ∙ timed_is r.config limit prev start end s a (start_lt (f refl)) (omega arith)
 
@@ -123,7 +121,7 @@ module _ (r : Rules) (limit : ℕ) (a : Accepted r.config) (g : limit ≤ 2 ^ 40
       go : (t : Bool) → (t ≡ false → s.start_sample < s.last_end_sample)
           → ClosedBetween prev limit (cond t (dropped_of limit prev s) (record {
             end = min (s.last_end_sample + r.lengths.padding_samples) limit;
-            report = OneRow (row_of r.config (padded_start r.lengths.padding_samples prev s) (min (s.last_end_sample + r.lengths.padding_samples) limit) s);
+            report = Some (row_of r.config (padded_start r.lengths.padding_samples prev s) (min (s.last_end_sample + r.lengths.padding_samples) limit) s);
           }))
       go true f = unfold dropped_of in record { high = omega (arith, o.0, o.1); rows = unfold reported in (tt, omega arith) }
       go false f = record { high = omega arith; rows = unfold reported row_of padded_start in ((omega arith, omega (arith, f refl, o.0, o.1, o.2), tt), omega arith) }
@@ -139,7 +137,7 @@ row_start r limit prev s =
     let start = max (s.start_sample - padding) prev in
     let end = padded_end padding limit s in
     either (RowFrom start) (too_short r.config s) (dropped_of limit prev s) (timed_of r.config limit prev start end s) tt
-    (either (RowFrom start) (leb (time_at r.config end) (time_at r.config start)) (dropped_of limit prev s) (record { end = end; report = OneRow (row_of r.config start end s) }) tt ((refl, refl), tt))
+    (either (RowFrom start) (leb (time_at r.config end) (time_at r.config start)) (dropped_of limit prev s) (record { end = end; report = Some (row_of r.config start end s) }) tt ((refl, refl), tt))
 
 -- ---- the track
 
@@ -153,9 +151,9 @@ pub record TrackOrdered (limit : ℕ) (t : Track) : Type 0 where
 pub later_limit : (n m : ℕ) (t : Track) → n ≤ m → TrackOrdered n t → TrackOrdered m t
 later_limit n m t h o = record { ended = le_trans o.ended h; talk = o.talk; active = go t.active_segment o.active }
   where
-    go : (a : ActiveSegment) → ActiveOrdered t.last_segment_end n a → ActiveOrdered t.last_segment_end m a
-    go Closed o = tt
-    go (Open s) o = (o.0, le_trans o.1 h, le_trans o.2 h)
+    go : (a : Option ActiveSegmentState) → ActiveOrdered t.last_segment_end n a → ActiveOrdered t.last_segment_end m a
+    go None o = tt
+    go (Some s) o = (o.0, le_trans o.1 h, le_trans o.2 h)
 
 -- what a step from a track adds to it: its rows are counted, and their samples
 pub record Adds (t : Track) (j : Judged) : Type 0 where
@@ -167,13 +165,13 @@ pub record Stepped (limit : ℕ) (t : Track) (j : Judged) : Type 0 where
   pub ordered : TrackOrdered limit j.track
   pub rows : Between t.last_segment_end (reported j.report) j.track.last_segment_end
 
-no_row : (t u : Track) (loud : Bool) → u.rows_reported ≡ t.rows_reported → u.talk_samples ≡ t.talk_samples → Adds t (record { track = u; report = NoRow; loud = loud })
+no_row : (t u : Track) (loud : Bool) → u.rows_reported ≡ t.rows_reported → u.talk_samples ≡ t.talk_samples → Adds t (record { track = u; report = None; loud = loud })
 no_row t u loud h g = record { rows_added = unfold reported in omega (arith, h); talk_added = unfold reported talk_of in omega (arith, g) }
 
-closed_by_adds : (r : Rules) (limit : ℕ) (t : Track) (a : ActiveSegment) → Adds t (closed_by r limit t a)
+closed_by_adds : (r : Rules) (limit : ℕ) (t : Track) (a : Option ActiveSegmentState) → Adds t (closed_by r limit t a)
 unfolding closed_by booked_of
-closed_by_adds r limit t Closed = no_row t t false refl refl
-closed_by_adds r limit t (Open s) = record { rows_added = refl; talk_added = refl }
+closed_by_adds r limit t None = no_row t t false refl refl
+closed_by_adds r limit t (Some s) = record { rows_added = refl; talk_added = refl }
 
 -- the open segment closed
 pub closed_adds : (r : Rules) (limit : ℕ) (t : Track) → Adds t (closed_of r limit t)
@@ -241,35 +239,35 @@ module _ (r : Rules) (limit : ℕ) (P : Track → Type 0) (Q : FrameMetrics → 
 -- ---- rows in order
 
 -- a track with the same ends and counts, and another segment
-same_ends : (limit : ℕ) (t : Track) (a : ActiveSegment) (loud : Bool) → TrackOrdered limit t → ActiveOrdered t.last_segment_end limit a → Stepped limit t (record { track = active_to a t; report = NoRow; loud = loud })
+same_ends : (limit : ℕ) (t : Track) (a : Option ActiveSegmentState) (loud : Bool) → TrackOrdered limit t → ActiveOrdered t.last_segment_end limit a → Stepped limit t (record { track = active_to a t; report = None; loud = loud })
 unfolding active_to reported
 same_ends limit t a loud o h = record { ordered = record { ended = o.ended; talk = o.talk; active = h }; rows = (tt, le_refl t.last_segment_end) }
 
-idle : (limit : ℕ) (t : Track) (loud : Bool) → TrackOrdered limit t → Stepped limit t (record { track = t; report = NoRow; loud = loud })
+idle : (limit : ℕ) (t : Track) (loud : Bool) → TrackOrdered limit t → Stepped limit t (record { track = t; report = None; loud = loud })
 unfolding reported
 idle limit t loud o = record { ordered = o; rows = (tt, le_refl t.last_segment_end) }
 
 -- a loud frame: 'a new start is never before the last segment end'
-extended_ordered : (prev limit : ℕ) (f : FrameMetrics) (ratio : Float) (a : ActiveSegment) → prev ≤ limit → FrameWithin limit f → ActiveOrdered prev limit a
-    → ActiveOrdered prev limit (Open (extended_by f ratio (segment_for a (max f.start_sample prev))))
+extended_ordered : (prev limit : ℕ) (f : FrameMetrics) (ratio : Float) (a : Option ActiveSegmentState) → prev ≤ limit → FrameWithin limit f → ActiveOrdered prev limit a
+    → ActiveOrdered prev limit (Some (extended_by f ratio (segment_for a (max f.start_sample prev))))
 unfolding extended_by segment_for begun_at
-extended_ordered prev limit f ratio Closed p w h = (omega arith, omega (arith, w.0), w.1)
-extended_ordered prev limit f ratio (Open s) p w h = (h.0, h.1, w.1)
+extended_ordered prev limit f ratio None p w h = (omega arith, omega (arith, w.0), w.1)
+extended_ordered prev limit f ratio (Some s) p w h = (h.0, h.1, w.1)
 
-paused_ordered : (prev limit : ℕ) (a : ActiveSegment) → ActiveOrdered prev limit a → ActiveOrdered prev limit (paused_by a)
+paused_ordered : (prev limit : ℕ) (a : Option ActiveSegmentState) → ActiveOrdered prev limit a → ActiveOrdered prev limit (paused_by a)
 unfolding paused_by
-paused_ordered prev limit Closed h = tt
-paused_ordered prev limit (Open s) h = h
+paused_ordered prev limit None h = tt
+paused_ordered prev limit (Some s) h = h
 
 -- the last segment end never falls
 pub end_mono : (limit : ℕ) (t : Track) (j : Judged) → Stepped limit t j → t.last_segment_end ≤ j.track.last_segment_end
 end_mono limit t j s = between_le t.last_segment_end (reported j.report) j.track.last_segment_end s.rows
 
 module _ (r : Rules) (limit : ℕ) (a : Accepted r.config) (g : limit ≤ 2 ^ 40) where
-  closed_by_stepped : (t : Track) (b : ActiveSegment) → TrackOrdered limit t → ActiveOrdered t.last_segment_end limit b → Stepped limit t (closed_by r limit t b)
+  closed_by_stepped : (t : Track) (b : Option ActiveSegmentState) → TrackOrdered limit t → ActiveOrdered t.last_segment_end limit b → Stepped limit t (closed_by r limit t b)
   unfolding closed_by booked_of
-  closed_by_stepped t Closed o h = idle limit t false o
-  closed_by_stepped t (Open s) o h =
+  closed_by_stepped t None o h = idle limit t false o
+  closed_by_stepped t (Some s) o h =
       let b = closing_between r limit a g t.last_segment_end s h in
       let f = finalized_of r limit t.last_segment_end s in
       record {
@@ -345,12 +343,12 @@ module _ (r : Rules) (limit : ℕ) (a : Accepted r.config) (g : limit ≤ 2 ^ 40
 -- ---- the open segment after a frame
 
 -- after closing nothing is open
-closed_by_closed : (r : Rules) (limit : ℕ) (t : Track) (a : ActiveSegment) → a ≡ t.active_segment → (closed_by r limit t a).track.active_segment ≡ Closed
+closed_by_closed : (r : Rules) (limit : ℕ) (t : Track) (a : Option ActiveSegmentState) → a ≡ t.active_segment → (closed_by r limit t a).track.active_segment ≡ None
 unfolding closed_by booked_of
-closed_by_closed r limit t Closed e = sym e
-closed_by_closed r limit t (Open s) e = refl
+closed_by_closed r limit t None e = sym e
+closed_by_closed r limit t (Some s) e = refl
 
-pub closed_closed : (r : Rules) (limit : ℕ) (t : Track) → (closed_of r limit t).track.active_segment ≡ Closed
+pub closed_closed : (r : Rules) (limit : ℕ) (t : Track) → (closed_of r limit t).track.active_segment ≡ None
 unfolding closed_of
 closed_closed r limit t = closed_by_closed r limit t t.active_segment refl
 
@@ -358,8 +356,8 @@ closed_closed r limit t = closed_by_closed r limit t t.active_segment refl
 abbrev pub extended_in : Track → FrameMetrics → ActiveSegmentState
 extended_in t f = extended_by f (ratio_of f.energy t.noise_floor) (segment_for t.active_segment (max f.start_sample t.last_segment_end))
 
-turned_active : (P : ActiveSegment → Type 0) (r : Rules) (limit : ℕ) (t : Track) (f : FrameMetrics) (ratio : Float) (loud speech : Bool) → P Closed
-    → (loud ≡ true → P (Open (extended_by f ratio (segment_for t.active_segment (max f.start_sample t.last_segment_end)))))
+turned_active : (P : Option ActiveSegmentState → Type 0) (r : Rules) (limit : ℕ) (t : Track) (f : FrameMetrics) (ratio : Float) (loud speech : Bool) → P None
+    → (loud ≡ true → P (Some (extended_by f ratio (segment_for t.active_segment (max f.start_sample t.last_segment_end)))))
     → (loud ≡ false → speech ≡ true → P (paused_by t.active_segment))
     → P (turned_of r limit t f ratio loud speech).track.active_segment
 unfolding turned_of loud_added paused_of active_to
@@ -368,15 +366,15 @@ turned_active P r limit t f ratio false true c h p = p refl refl
 turned_active P r limit t f ratio false false c h p = subst P (sym (closed_closed r limit t)) c
 
 -- what holds of no segment, of one extended by a loud frame, and of one that pauses, holds after a frame
-pub judged_active : (P : ActiveSegment → Type 0) (r : Rules) (limit : ℕ) (t : Track) (f : FrameMetrics) → P Closed
-    → (is_loud r t f ≡ true → P (Open (extended_in t f)))
+pub judged_active : (P : Option ActiveSegmentState → Type 0) (r : Rules) (limit : ℕ) (t : Track) (f : FrameMetrics) → P None
+    → (is_loud r t f ≡ true → P (Some (extended_in t f)))
     → (is_loud r t f ≡ false → is_speech r t f ≡ true → P (paused_by t.active_segment))
     → P (judged_of r limit t f).track.active_segment
 unfolding judged_of floored_to
 judged_active P r limit t f = turned_active P r limit (floored_to (floor_after r t f) t) f (ratio_of f.energy t.noise_floor) (is_loud r t f) (is_speech r t f)
 
 -- and after a call: flush closes the segment
-pub ended_active : (P : ActiveSegment → Type 0) (finish : Bool) (r : Rules) (limit : ℕ) (t : Track) → P Closed → P t.active_segment → P (ended_of finish r limit t).track.active_segment
+pub ended_active : (P : Option ActiveSegmentState → Type 0) (finish : Bool) (r : Rules) (limit : ℕ) (t : Track) → P None → P t.active_segment → P (ended_of finish r limit t).track.active_segment
 unfolding ended_of
 ended_active P true r limit t c h = subst P (sym (closed_closed r limit t)) c
 ended_active P false r limit t c h = h
@@ -384,19 +382,19 @@ ended_active P false r limit t c h = h
 -- ---- the earliest start of a row
 
 -- the open segment, if there is one, starts at next or later
-abbrev pub StartsFrom : ℕ → ActiveSegment → Type 0
-StartsFrom next Closed = Unit {0}
-StartsFrom next (Open s) = next ≤ s.start_sample
+abbrev pub StartsFrom : ℕ → Option ActiveSegmentState → Type 0
+StartsFrom next None = Unit {0}
+StartsFrom next (Some s) = next ≤ s.start_sample
 
 -- a step after which the open segment starts at next or later, and whose row, if there is one, starts no more than the padding before next
 pub record After (next padding : ℕ) (j : Judged) : Type 0 where
   pub segment : StartsFrom next j.track.active_segment
   pub rows : RowsFrom (next - padding) (reported j.report)
 
-closed_by_after : (r : Rules) (limit next : ℕ) (t : Track) (a : ActiveSegment) → StartsFrom next a → StartsFrom next t.active_segment → After next r.lengths.padding_samples (closed_by r limit t a)
+closed_by_after : (r : Rules) (limit next : ℕ) (t : Track) (a : Option ActiveSegmentState) → StartsFrom next a → StartsFrom next t.active_segment → After next r.lengths.padding_samples (closed_by r limit t a)
 unfolding closed_by booked_of
-closed_by_after r limit next t Closed h g = record { segment = g; rows = unfold reported in tt }
-closed_by_after r limit next t (Open s) h g = record {
+closed_by_after r limit next t None h g = record { segment = g; rows = unfold reported in tt }
+closed_by_after r limit next t (Some s) h g = record {
   segment = tt;
   rows = every_map _ _ (λ c e. omega (arith, e.0)) (reported (finalized_of r limit t.last_segment_end s).report) (row_start r limit t.last_segment_end s);
 }
@@ -406,15 +404,15 @@ pub closed_after : (r : Rules) (limit next : ℕ) (t : Track) → StartsFrom nex
 unfolding closed_of
 closed_after r limit next t h = closed_by_after r limit next t t.active_segment h h
 
-extended_after : (next prev : ℕ) (f : FrameMetrics) (ratio : Float) (a : ActiveSegment) → next ≤ f.start_sample → StartsFrom next a → StartsFrom next (Open (extended_by f ratio (segment_for a (max f.start_sample prev))))
+extended_after : (next prev : ℕ) (f : FrameMetrics) (ratio : Float) (a : Option ActiveSegmentState) → next ≤ f.start_sample → StartsFrom next a → StartsFrom next (Some (extended_by f ratio (segment_for a (max f.start_sample prev))))
 unfolding extended_by segment_for begun_at
-extended_after next prev f ratio Closed w h = omega arith
-extended_after next prev f ratio (Open s) w h = h
+extended_after next prev f ratio None w h = omega arith
+extended_after next prev f ratio (Some s) w h = h
 
-paused_after : (next : ℕ) (a : ActiveSegment) → StartsFrom next a → StartsFrom next (paused_by a)
+paused_after : (next : ℕ) (a : Option ActiveSegmentState) → StartsFrom next a → StartsFrom next (paused_by a)
 unfolding paused_by
-paused_after next Closed h = tt
-paused_after next (Open s) h = h
+paused_after next None h = tt
+paused_after next (Some s) h = h
 
 turned_after : (r : Rules) (limit next : ℕ) (t : Track) (f : FrameMetrics) (ratio : Float) (loud speech : Bool) → next ≤ f.start_sample → StartsFrom next t.active_segment
     → After next r.lengths.padding_samples (turned_of r limit t f ratio loud speech)

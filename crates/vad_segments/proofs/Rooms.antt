@@ -1,4 +1,5 @@
 -- How far one frame takes the track: positions by 1 at most, counts by a position and 1,025. Assumes nothing.
+use Rattle.std.specs.Prelude.{None, Option, Some}
 use mathlib.Core.Bool.{Bool, true, false, cond}
 use mathlib.Core.List.{List, [], ◌∷◌}
 use Prim.Native.Nat.{ℕ, ◌+◌, ◌*◌, ◌≤◌, ◌<◌, max}
@@ -9,7 +10,6 @@ use lib.Ieee.{Float}
 use Rattle.score.proofs.Laws.{score_le}
 use Rattle.vad_segments.specs.Loudness.{ratio_of}
 use Rattle.vad_row.specs.Rows.{reported, talk_of}
-use Rattle.vad_row.specs.declared.Report.TheVariants.{OneRow}
 use Rattle.vad_row.proofs.Laws.{talk_fits, report_le}
 use Rattle.vad_segments.specs.Closing.{time_at, padded_start, padded_end, dropped_of, too_short, timed_of, finalized_of, booked_of, closed_by, closed_of, row_of}
 use Rattle.vad_segments.specs.Judging.{floored_to, active_to, begun_at, segment_for, extended_by, loud_added, paused_by, paused_of, is_loud, is_speech, floor_after, turned_of, judged_of, frame_at, frames_at, track_after}
@@ -17,8 +17,6 @@ use Rattle.vad_segments.specs.Rooms.{length_most, frames_most, positions_first, 
 use Rattle.vad_segments.specs.declared.Rules.{Rules}
 use Rattle.vad_segments.specs.declared.FrameMetrics.{FrameMetrics}
 use Rattle.vad_segments.specs.declared.ActiveSegmentState.{ActiveSegmentState}
-use Rattle.vad_segments.specs.declared.ActiveSegment.{ActiveSegment}
-use Rattle.vad_segments.specs.declared.ActiveSegment.TheVariants.{Closed, Open}
 use Rattle.vad_segments.specs.declared.Finalized.{Finalized}
 use Rattle.vad_segments.specs.declared.Track.{Track}
 
@@ -41,7 +39,7 @@ module _ (r : Rules) (limit prev : ℕ) (s : ActiveSegmentState) (p b : ℕ) (h 
   unfolding timed_of row_of reported talk_of
   timed_ends from to l = go (leb (time_at r.config to) (time_at r.config from))
     where
-      go : (t : Bool) → EndsBy (p + 1) (cond t (dropped_of limit prev s) (record { end = to; report = OneRow (row_of r.config from to s) }))
+      go : (t : Bool) → EndsBy (p + 1) (cond t (dropped_of limit prev s) (record { end = to; report = Some (row_of r.config from to s) }))
       go true = dropped_ends
       go false = (omega arith, omega (arith, (talk_fits (row_of r.config from to s)).most))
 
@@ -69,36 +67,36 @@ module _ (r : Rules) (limit prev : ℕ) (s : ActiveSegmentState) (p b : ℕ) (h 
 abbrev pub Grown : ℕ → ℕ → Track → Type 0
 Grown p b t = Within (p + 1) (b + p + 1025) t
 
-active_up : (p q b c : ℕ) → p ≤ q → b ≤ c → (a : ActiveSegment) → ActiveWithin p b a → ActiveWithin q c a
-active_up p q b c l m Closed h = tt
-active_up p q b c l m (Open s) h = (omega arith, omega arith, omega arith, omega arith, omega arith)
+active_up : (p q b c : ℕ) → p ≤ q → b ≤ c → (a : Option ActiveSegmentState) → ActiveWithin p b a → ActiveWithin q c a
+active_up p q b c l m None h = tt
+active_up p q b c l m (Some s) h = (omega arith, omega arith, omega arith, omega arith, omega arith)
 
 pub within_up : (p q b c : ℕ) → p ≤ q → b ≤ c → (t : Track) → Within p b t → Within q c t
 within_up p q b c l m t h = (omega arith, omega arith, omega arith, active_up p q b c l m t.active_segment h.3)
 
-pub segment_counts : (p b : ℕ) (a : ActiveSegment) (start : ℕ) → ActiveWithin p b a → ((segment_for a start).score_total ≤ b) × ((segment_for a start).loud_frames ≤ b)
+pub segment_counts : (p b : ℕ) (a : Option ActiveSegmentState) (start : ℕ) → ActiveWithin p b a → ((segment_for a start).score_total ≤ b) × ((segment_for a start).loud_frames ≤ b)
 unfolding segment_for begun_at
-segment_counts p b Closed start h = (omega arith, omega arith)
-segment_counts p b (Open s) start h = (omega arith, omega arith)
+segment_counts p b None start h = (omega arith, omega arith)
+segment_counts p b (Some s) start h = (omega arith, omega arith)
 
-segment_start : (p b : ℕ) (a : ActiveSegment) (start : ℕ) → ActiveWithin p b a → start ≤ p → (segment_for a start).start_sample ≤ p
+segment_start : (p b : ℕ) (a : Option ActiveSegmentState) (start : ℕ) → ActiveWithin p b a → start ≤ p → (segment_for a start).start_sample ≤ p
 unfolding segment_for begun_at
-segment_start p b Closed start h l = l
-segment_start p b (Open s) start h l = h.0
+segment_start p b None start h l = l
+segment_start p b (Some s) start h l = h.0
 
-paused_within : (p b : ℕ) (a : ActiveSegment) → ActiveWithin p b a → ActiveWithin p (b + 1) (paused_by a)
+paused_within : (p b : ℕ) (a : Option ActiveSegmentState) → ActiveWithin p b a → ActiveWithin p (b + 1) (paused_by a)
 unfolding paused_by
-paused_within p b Closed h = tt
-paused_within p b (Open s) h = (omega arith, omega arith, omega arith, omega arith, omega arith)
+paused_within p b None h = tt
+paused_within p b (Some s) h = (omega arith, omega arith, omega arith, omega arith, omega arith)
 
 module _ (r : Rules) (limit p b : ℕ) (most : limit ≤ p) where
   closed_within : (t : Track) → Within p b t → Grown p b (closed_of r limit t).track
   unfolding closed_of closed_by booked_of
   closed_within t h = go t.active_segment h.3
     where
-      go : (a : ActiveSegment) → ActiveWithin p b a → Grown p b (closed_by r limit t a).track
-      go Closed w = (omega arith, omega arith, omega arith, active_up p (p + 1) b (b + p + 1025) (omega arith) (omega arith) t.active_segment h.3)
-      go (Open s) w =
+      go : (a : Option ActiveSegmentState) → ActiveWithin p b a → Grown p b (closed_by r limit t a).track
+      go None w = (omega arith, omega arith, omega arith, active_up p (p + 1) b (b + p + 1025) (omega arith) (omega arith) t.active_segment h.3)
+      go (Some s) w =
           let f = finalized_of r limit t.last_segment_end s in
           let e = finalized_ends r limit t.last_segment_end s p b w h.0 most in
           let one = report_le f.report in

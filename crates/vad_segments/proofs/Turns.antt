@@ -9,10 +9,9 @@ use lib.Seq.{drop-cons}
 use lib.Ieee.{Float, nan}
 use Rattle.vad_segments.specs.Loudness.{at_least, lesser_of, least_from, seed_of}
 
-pub seed_first : (least floor : Float) (es : List Float) → 0 < length es → at_least least (least_from (get_or es 0 nan) (drop 1 es)) ≡ seed_of least floor es
+pub seed_first : (least floor e : Float) (es : List Float) → at_least least (least_from e es) ≡ seed_of least floor (e ∷ es)
 unfolding seed_of
-seed_first least floor [] h = absurd (omega arith)
-seed_first least floor (e ∷ es) h = refl
+seed_first least floor e es = refl
 
 pub seed_none : (least floor : Float) (es : List Float) → length es ≡ 0 → floor ≡ seed_of least floor es
 unfolding seed_of

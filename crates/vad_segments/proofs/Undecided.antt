@@ -1,4 +1,6 @@
 -- The undecided position: no later row starts before it, it never goes back, and with no segment open it trails the sound by less than a frame and the padding. Assumes nothing.
+use Rattle.vad_segments.specs.declared.ActiveSegmentState.{ActiveSegmentState}
+use Rattle.std.specs.Prelude.{None, Option, Some}
 use mathlib.Core.Path.{◌≡◌, ap}
 use mathlib.Core.Bool.{Bool, true, false}
 use mathlib.Core.List.{List}
@@ -12,8 +14,6 @@ use Rattle.vad_segments.specs.Positions.{next_of, decided_to, undecided_of}
 use Rattle.vad_segments.proofs.Rooms.{FrameWithin}
 use Rattle.vad_segments.specs.declared.Rules.{Rules}
 use Rattle.vad_segments.specs.declared.FrameMetrics.{FrameMetrics}
-use Rattle.vad_segments.specs.declared.ActiveSegment.{ActiveSegment}
-use Rattle.vad_segments.specs.declared.ActiveSegment.TheVariants.{Closed, Open}
 use Rattle.vad_segments.specs.declared.Track.{Track}
 use Rattle.vad_row.proofs.Laws.{RowsFrom, between_le}
 use Rattle.vad_segments.proofs.Ordered.{TrackOrdered, StartsFrom, call_in_order, call_starts_after, call_rows_from}
@@ -21,21 +21,21 @@ use Rattle.vad_segments.proofs.Ordered.{TrackOrdered, StartsFrom, call_in_order,
 -- ---- the next start
 
 -- a segment can begin where the carry does, or is open
-next_carry : (carry : ℕ) (a : ActiveSegment) → next_of carry a ≤ carry
+next_carry : (carry : ℕ) (a : Option ActiveSegmentState) → next_of carry a ≤ carry
 unfolding next_of
-next_carry carry Closed = omega arith
-next_carry carry (Open s) = omega arith
+next_carry carry None = omega arith
+next_carry carry (Some s) = omega arith
 
-next_active : (carry : ℕ) (a : ActiveSegment) → StartsFrom (next_of carry a) a
+next_active : (carry : ℕ) (a : Option ActiveSegmentState) → StartsFrom (next_of carry a) a
 unfolding next_of
-next_active carry Closed = tt
-next_active carry (Open s) = omega arith
+next_active carry None = tt
+next_active carry (Some s) = omega arith
 
 -- what both are past, it is past
-next_from : (n carry : ℕ) (a : ActiveSegment) → n ≤ carry → StartsFrom n a → n ≤ next_of carry a
+next_from : (n carry : ℕ) (a : Option ActiveSegmentState) → n ≤ carry → StartsFrom n a → n ≤ next_of carry a
 unfolding next_of
-next_from n carry Closed l h = l
-next_from n carry (Open s) l h = omega arith
+next_from n carry None l h = l
+next_from n carry (Some s) l h = omega arith
 
 -- ---- the position
 module _ (padding carry : ℕ) (t : Track) where
@@ -46,7 +46,7 @@ module _ (padding carry : ℕ) (t : Track) where
   undecided_le false = let n = next_carry carry t.active_segment in omega arith
 
   -- 'after warm-up with no segment open it trails the sound by less than a frame plus the padding': n values are carried, fewer than a frame
-  pub undecided_trails : (n frame : ℕ) → t.active_segment ≡ Closed → n < frame → carry + n < undecided_of false padding carry t + (frame + padding)
+  pub undecided_trails : (n frame : ℕ) → t.active_segment ≡ None → n < frame → carry + n < undecided_of false padding carry t + (frame + padding)
   unfolding undecided_of decided_to next_of
   undecided_trails n frame c h = let e = ap (next_of carry) c in omega arith
 

@@ -1,17 +1,14 @@
 -- A segment closed, as `finalize_segment` does, and its row: document 01's 'Score, rows, tally'.
-use Rattle.std.specs.Prelude.{Bool, false, ◌||◌, cond, ℕ, suc, ◌+◌, ◌-◌, min, max, leb, ltb, length, pos, Float}
+use Rattle.std.specs.Prelude.{Bool, false, ◌||◌, cond, ℕ, suc, ◌+◌, ◌-◌, min, max, leb, ltb, length, pos, Float, None, Option, Some}
 use Rattle.std.specs.Float.{binary32}
 use Rattle.std.specs.Float.Ieee.{of_int, div, to_bits}
 use Rattle.vad_config.specs.Lengths.{time_of_sample_of}
 use Rattle.vad_config.specs.declared.VadConfig.{VadConfig}
 use Rattle.vad_row.specs.Rows.{reported, talk_of}
 use Rattle.vad_row.specs.declared.Row.{Row}
-use Rattle.vad_row.specs.declared.Report.TheVariants.{NoRow, OneRow}
 use Rattle.vad_segments.specs.Setters.{booked_to}
 use Rattle.vad_segments.specs.declared.Rules.{Rules}
 use Rattle.vad_segments.specs.declared.ActiveSegmentState.{ActiveSegmentState}
-use Rattle.vad_segments.specs.declared.ActiveSegment.{ActiveSegment}
-use Rattle.vad_segments.specs.declared.ActiveSegment.TheVariants.{Closed, Open}
 use Rattle.vad_segments.specs.declared.Finalized.{Finalized}
 use Rattle.vad_segments.specs.declared.Track.{Track}
 use Rattle.vad_segments.specs.declared.Judged.{Judged}
@@ -50,7 +47,7 @@ padded_end padding limit s = min (s.last_end_sample + padding) (max limit (suc s
 
 -- dropped 'but still move that end'
 unfoldable pub dropped_of : ℕ → ℕ → ActiveSegmentState → Finalized
-dropped_of limit prev s = record { end = max (min s.last_end_sample limit) prev; report = NoRow }
+dropped_of limit prev s = record { end = max (min s.last_end_sample limit) prev; report = None }
 
 -- 'runs under `min_speech_frames`, or with last loud end not past the start, are dropped'
 unfoldable pub too_short : VadConfig → ActiveSegmentState → Bool
@@ -59,7 +56,7 @@ too_short c s = leb s.last_end_sample s.start_sample || ltb s.loud_frames c.min_
 -- a row, unless its end's time is not past its start's, which never is so either
 unfoldable pub timed_of : VadConfig → ℕ → ℕ → ℕ → ℕ → ActiveSegmentState → Finalized
 timed_of c limit prev start end s =
-    cond (leb (time_at c end) (time_at c start)) (dropped_of limit prev s) (record { end = end; report = OneRow (row_of c start end s) })
+    cond (leb (time_at c end) (time_at c start)) (dropped_of limit prev s) (record { end = end; report = Some (row_of c start end s) })
 
 -- `finalize_segment`: the limit is what the end is clipped to, 'samples received by this call'; prev is the last segment end before
 unfoldable pub finalized_of : Rules → ℕ → ℕ → ActiveSegmentState → Finalized
@@ -75,9 +72,9 @@ booked_of t f =
     record { track = booked_to f.end rows talk t; report = f.report; loud = false }
 
 -- the open segment, if there is one, closed
-unfoldable pub closed_by : Rules → ℕ → Track → ActiveSegment → Judged
-closed_by r limit t Closed = record { track = t; report = NoRow; loud = false }
-closed_by r limit t (Open s) = booked_of t (finalized_of r limit t.last_segment_end s)
+unfoldable pub closed_by : Rules → ℕ → Track → Option ActiveSegmentState → Judged
+closed_by r limit t None = record { track = t; report = None; loud = false }
+closed_by r limit t (Some s) = booked_of t (finalized_of r limit t.last_segment_end s)
 
 unfoldable pub closed_of : Rules → ℕ → Track → Judged
 closed_of r limit t = closed_by r limit t t.active_segment

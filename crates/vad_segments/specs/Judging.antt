@@ -1,5 +1,5 @@
 -- `classify`: one frame judged, and a call's frames in order.
-use Rattle.std.specs.Prelude.{Bool, true, false, cond, List, [], ◌∷◌, ◌++◌, ℕ, suc, ◌+◌, min, max, Float}
+use Rattle.std.specs.Prelude.{Bool, true, false, cond, List, [], ◌∷◌, ◌++◌, ℕ, suc, ◌+◌, min, max, Float, None, Option, Some}
 use Rattle.std.specs.Float.{binary32}
 use Rattle.std.specs.Float.Ieee.{add}
 use Rattle.float.specs.Numbers.{zero32}
@@ -12,10 +12,7 @@ use Rattle.vad_segments.specs.Closing.{closed_of}
 use Rattle.vad_segments.specs.declared.Rules.{Rules}
 use Rattle.vad_segments.specs.declared.FrameMetrics.{FrameMetrics}
 use Rattle.vad_segments.specs.declared.ActiveSegmentState.{ActiveSegmentState}
-use Rattle.vad_segments.specs.declared.ActiveSegment.{ActiveSegment}
-use Rattle.vad_segments.specs.declared.ActiveSegment.TheVariants.{Closed, Open}
 use Rattle.vad_row.specs.declared.Row.{Row}
-use Rattle.vad_row.specs.declared.Report.TheVariants.{NoRow}
 use Rattle.vad_segments.specs.declared.Track.{Track}
 use Rattle.vad_segments.specs.declared.Judged.{Judged}
 
@@ -24,7 +21,7 @@ use Rattle.vad_segments.specs.declared.Judged.{Judged}
 unfoldable pub floored_to : Float → Track → Track
 floored_to floor t = framed_to floor t.active_segment t
 
-unfoldable pub active_to : ActiveSegment → Track → Track
+unfoldable pub active_to : Option ActiveSegmentState → Track → Track
 active_to a t = framed_to t.noise_floor a t
 
 -- a segment that begins: 'a new start is never before the last segment end'
@@ -39,9 +36,9 @@ begun_at start =
       silence_run = 0;
     }
 
-unfoldable pub segment_for : ActiveSegment → ℕ → ActiveSegmentState
-segment_for Closed start = begun_at start
-segment_for (Open s) start = s
+unfoldable pub segment_for : Option ActiveSegmentState → ℕ → ActiveSegmentState
+segment_for None start = begun_at start
+segment_for (Some s) start = s
 
 -- a loud frame is added; only loud frames move the last loud end
 unfoldable pub extended_by : FrameMetrics → Float → ActiveSegmentState → ActiveSegmentState
@@ -57,12 +54,12 @@ extended_by f ratio s =
 
 unfoldable pub loud_added : Track → FrameMetrics → Float → Track
 loud_added t f ratio =
-    active_to (Open (extended_by f ratio (segment_for t.active_segment (max f.start_sample t.last_segment_end)))) t
+    active_to (Some (extended_by f ratio (segment_for t.active_segment (max f.start_sample t.last_segment_end)))) t
 
 -- a quiet frame that the hangover bears: the end stays
-unfoldable pub paused_by : ActiveSegment → ActiveSegment
-paused_by Closed = Closed
-paused_by (Open s) = Open (silent_for (suc s.silence_run) s)
+unfoldable pub paused_by : Option ActiveSegmentState → Option ActiveSegmentState
+paused_by None = None
+paused_by (Some s) = Some (silent_for (suc s.silence_run) s)
 
 unfoldable pub paused_of : Track → Track
 paused_of t = active_to (paused_by t.active_segment) t
@@ -83,8 +80,8 @@ floor_after r t f =
 
 -- loud, a pause, or the end of a segment
 unfoldable pub turned_of : Rules → ℕ → Track → FrameMetrics → Float → Bool → Bool → Judged
-turned_of r limit t f ratio true speech = record { track = loud_added t f ratio; report = NoRow; loud = true }
-turned_of r limit t f ratio false true = record { track = paused_of t; report = NoRow; loud = false }
+turned_of r limit t f ratio true speech = record { track = loud_added t f ratio; report = None; loud = true }
+turned_of r limit t f ratio false true = record { track = paused_of t; report = None; loud = false }
 turned_of r limit t f ratio false false = closed_of r limit t
 
 unfoldable pub judged_of : Rules → ℕ → Track → FrameMetrics → Judged
@@ -122,7 +119,7 @@ count_of (b ∷ bs) = cond b 1 0 + count_of bs
 
 unfoldable pub ended_of : Bool → Rules → ℕ → Track → Judged
 ended_of true r limit t = closed_of r limit t
-ended_of false r limit t = record { track = t; report = NoRow; loud = false }
+ended_of false r limit t = record { track = t; report = None; loud = false }
 
 unfoldable pub call_rows : Bool → Rules → ℕ → Track → List FrameMetrics → List Row
 call_rows finish r limit t fs = rows_of r limit t fs ++ reported (ended_of finish r limit (track_after r limit t fs)).report

@@ -1,31 +1,30 @@
 -- Document 01's 'Frames': when a frame is loud, when it is in speech, and the noise floor.
-use Rattle.std.specs.Prelude.{Bool, ◌&&◌, ◌||◌, cond, List, [], ◌∷◌, ℕ, suc, leb, Float}
+use Rattle.vad_segments.specs.declared.ActiveSegmentState.{ActiveSegmentState}
+use Rattle.std.specs.Prelude.{Bool, ◌&&◌, ◌||◌, cond, List, [], ◌∷◌, ℕ, suc, leb, Float, None, Option, Some}
 use Rattle.std.specs.Float.{binary32}
 use Rattle.std.specs.Float.Ieee.{le, lt, sub, mul, div}
 use Rattle.float.specs.Finite.{or_zero}
 use Rattle.float.specs.Fused.{fused_of}
 use Rattle.float.specs.Numbers.{one32}
 use Rattle.vad_config.specs.declared.VadConfig.{VadConfig}
-use Rattle.vad_segments.specs.declared.ActiveSegment.{ActiveSegment}
-use Rattle.vad_segments.specs.declared.ActiveSegment.TheVariants.{Closed, Open}
 
 -- 'f32 energy/floor'
 unfoldable pub ratio_of : Float → Float → Float
 ratio_of energy floor = div binary32 energy floor
 
 -- 'release ratio (segment open) or activation ratio'
-unfoldable pub required_of : VadConfig → ActiveSegment → Float
-required_of c Closed = c.activation_ratio
-required_of c (Open s) = c.release_ratio
+unfoldable pub required_of : VadConfig → Option ActiveSegmentState → Float
+required_of c None = c.activation_ratio
+required_of c (Some s) = c.release_ratio
 
 -- 'A frame is loud when energy ≥ gate and f32 energy/floor ≥' the ratio required
-unfoldable pub loud_of : VadConfig → ActiveSegment → Float → Float → Bool
+unfoldable pub loud_of : VadConfig → Option ActiveSegmentState → Float → Float → Bool
 loud_of c active floor energy = le c.min_speech_energy energy && le (required_of c active) (ratio_of energy floor)
 
 -- a quiet frame inside a segment is a pause: 'a segment closes when the silence run exceeds hangover'
-unfoldable pub in_speech_of : ℕ → ActiveSegment → Bool → Bool
-in_speech_of hangover Closed loud = loud
-in_speech_of hangover (Open s) loud = loud || leb (suc s.silence_run) hangover
+unfoldable pub in_speech_of : ℕ → Option ActiveSegmentState → Bool → Bool
+in_speech_of hangover None loud = loud
+in_speech_of hangover (Some s) loud = loud || leb (suc s.silence_run) hangover
 
 -- 'Floor weight: rise when in speech and energy is above the floor, else smoothing.'
 unfoldable pub weight_of : Float → Float → Bool → Float → Float → Float

@@ -1,7 +1,6 @@
 -- Document 01's 'Frames': how long frames are held, and the undecided position.
-use Rattle.std.specs.Prelude.{Bool, not, ◌&&◌, cond, ℕ, ◌-◌, min, max, ltb}
-use Rattle.vad_segments.specs.declared.ActiveSegment.{ActiveSegment}
-use Rattle.vad_segments.specs.declared.ActiveSegment.TheVariants.{Closed, Open}
+use Rattle.vad_segments.specs.declared.ActiveSegmentState.{ActiveSegmentState}
+use Rattle.std.specs.Prelude.{Bool, not, ◌&&◌, cond, ℕ, ◌-◌, min, max, ltb, None, Option, Some}
 use Rattle.vad_segments.specs.declared.Track.{Track}
 
 -- 'Warm-up holds frames until the count is reached or flush comes.'
@@ -9,9 +8,9 @@ unfoldable pub holds_of : Bool → ℕ → ℕ → Bool
 holds_of finish count held = not finish && ltb held count
 
 -- 'next = the lesser of carry start and the open segment's start'
-unfoldable pub next_of : ℕ → ActiveSegment → ℕ
-next_of carry Closed = carry
-next_of carry (Open s) = min carry s.start_sample
+unfoldable pub next_of : ℕ → Option ActiveSegmentState → ℕ
+next_of carry None = carry
+next_of carry (Some s) = min carry s.start_sample
 
 -- 'the greater of next − padding (not below 0) and the lesser of last segment end and next'
 unfoldable pub decided_to : ℕ → ℕ → ℕ → ℕ

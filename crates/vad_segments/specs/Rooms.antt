@@ -1,9 +1,7 @@
 -- What keeps every sum of a call below 2^64. A state that document 01 calls sound has it with much to spare.
-use Rattle.std.specs.Prelude.{ℕ, ◌^◌, ◌≤◌}
+use Rattle.std.specs.Prelude.{ℕ, ◌^◌, ◌≤◌, None, Option, Some}
 use Rattle.vad_config.specs.declared.Lengths.{Lengths}
 use Rattle.vad_segments.specs.declared.ActiveSegmentState.{ActiveSegmentState}
-use Rattle.vad_segments.specs.declared.ActiveSegment.{ActiveSegment}
-use Rattle.vad_segments.specs.declared.ActiveSegment.TheVariants.{Closed, Open}
 use Rattle.vad_segments.specs.declared.Track.{Track}
 
 -- ---- the numbers
@@ -39,9 +37,9 @@ LengthsWithin l = (l.frame_length ≤ length_most) × (l.hop_length ≤ length_m
 abbrev pub SegmentWithin : ℕ → ℕ → ActiveSegmentState → Type 0
 SegmentWithin p b s = (s.start_sample ≤ p) × (s.last_end_sample ≤ p) × (s.score_total ≤ b) × (s.loud_frames ≤ b) × (s.silence_run ≤ b)
 
-abbrev pub ActiveWithin : ℕ → ℕ → ActiveSegment → Type 0
-ActiveWithin p b Closed = Unit {0}
-ActiveWithin p b (Open s) = SegmentWithin p b s
+abbrev pub ActiveWithin : ℕ → ℕ → Option ActiveSegmentState → Type 0
+ActiveWithin p b None = Unit {0}
+ActiveWithin p b (Some s) = SegmentWithin p b s
 
 abbrev pub Within : ℕ → ℕ → Track → Type 0
 Within p b t = (t.last_segment_end ≤ p) × (t.rows_reported ≤ b) × (t.talk_samples ≤ b) × ActiveWithin p b t.active_segment

@@ -1,8 +1,6 @@
 -- A track and an open segment with some of their numbers changed. A record's fields are all written out here, and where a segment begins (`begun_at`) or is extended (`extended_by`).
-use Rattle.std.specs.Prelude.{ℕ, Float}
+use Rattle.std.specs.Prelude.{ℕ, Float, None, Option}
 use Rattle.vad_segments.specs.declared.ActiveSegmentState.{ActiveSegmentState}
-use Rattle.vad_segments.specs.declared.ActiveSegment.{ActiveSegment}
-use Rattle.vad_segments.specs.declared.ActiveSegment.TheVariants.{Closed}
 use Rattle.vad_segments.specs.declared.Track.{Track}
 
 -- nothing heard: the floor begins at `energy_floor`
@@ -13,11 +11,11 @@ fresh_track least =
       last_segment_end = 0;
       rows_reported = 0;
       talk_samples = 0;
-      active_segment = Closed;
+      active_segment = None;
     }
 
 -- what a frame changes: the floor, and what is open
-abbrev pub framed_to : Float → ActiveSegment → Track → Track
+abbrev pub framed_to : Float → Option ActiveSegmentState → Track → Track
 framed_to floor a t =
     record {
       noise_floor = floor;
@@ -35,7 +33,7 @@ booked_to end rows talk t =
       last_segment_end = end;
       rows_reported = rows;
       talk_samples = talk;
-      active_segment = Closed;
+      active_segment = None;
     }
 
 -- so many quiet frames since the last loud one

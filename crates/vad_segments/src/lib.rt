@@ -5,15 +5,15 @@
 pub mod closing;
 pub mod judging;
 mod loudness;
-mod order;
 pub mod positions;
 pub mod setters;
 
-ghost use Rattle.std.specs.Prelude.{◌≡◌};
+ghost use Rattle.std.specs.Prelude.{◌≡◌, ◌≤◌};
 ghost use Rattle.vad_segments.specs.Loudness.{seed_of};
+ghost use Rattle.vad_segments.specs.Rooms.{positions_most, LengthsWithin};
 
 use vad_config::{Lengths, VadConfig};
-use vad_row::Report;
+use vad_row::Row;
 
 // What opening fixed: the settings, the lengths worked out from them, and the weight that the host handed in.
 #[derive(Clone, Copy)]
@@ -21,6 +21,15 @@ pub struct Rules {
     pub config: VadConfig,
     pub lengths: Lengths,
     pub speech_floor_rise: f32,
+}
+
+// By what the frames of one call are judged: the rules, and the limit to which the end of a segment is clipped, the sound received. Small enough for every sum.
+#[derive(Clone, Copy)]
+pub struct CallRules {
+    pub rules: Rules,
+    pub limit: u64,
+    pub ghost lengths_fit: { LengthsWithin rules.lengths },
+    pub ghost limit_fits: { limit ≤ positions_most },
 }
 
 // One analysis frame: where it begins and ends in the stream, and its energy.
@@ -44,13 +53,6 @@ pub struct ActiveSegmentState {
     pub silence_run: u64,
 }
 
-// The Rust's `Option<ActiveSegmentState>`.
-#[derive(Clone, Copy)]
-pub enum ActiveSegment {
-    Closed,
-    Open(ActiveSegmentState),
-}
-
 // What judging changes. The last two are over all rows since the opening or the latest reset.
 #[derive(Clone, Copy)]
 pub struct Track {
@@ -59,21 +61,21 @@ pub struct Track {
     pub last_segment_end: u64,
     pub rows_reported: u64,
     pub talk_samples: u64,
-    pub active_segment: ActiveSegment,
+    pub active_segment: Option<ActiveSegmentState>,
 }
 
 // A segment closed: the new last segment end, and the row if it was not dropped.
 #[derive(Clone, Copy)]
 pub struct Finalized {
     pub end: u64,
-    pub report: Report,
+    pub report: Option<Row>,
 }
 
 // The track after a frame, the row if one closed, and whether the frame was loud.
 #[derive(Clone, Copy)]
 pub struct Judged {
     pub track: Track,
-    pub report: Report,
+    pub report: Option<Row>,
     pub loud: bool,
 }
 
@@ -81,14 +83,12 @@ pub struct Judged {
 pub fn seed(energy_floor: f32, noise_floor: f32, energies: &[f32]) -> f32
     ensures { result ≡ seed_of energy_floor noise_floor energies.now }
 {
-    if energies.len() == 0 {
+    let Some((&first, rest)) = energies.split_first() else {
         return noise_floor;
-    }
-    let mut quietest = energies[0];
-    let mut i = 1;
-    while i < energies.len() {
-        quietest = loudness::lesser(quietest, energies[i]);
-        i += 1;
+    };
+    let mut quietest = first;
+    for &energy in rest {
+        quietest = loudness::lesser(quietest, energy);
     }
     loudness::at_least(energy_floor, quietest)
 }

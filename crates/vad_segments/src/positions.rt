@@ -2,8 +2,7 @@
 ghost use Rattle.std.specs.Prelude.{◌≡◌};
 ghost use Rattle.vad_segments.specs.Positions.{holds_of, next_of, decided_to, undecided_of};
 
-use super::order::{greater, lesser, saturating_sub};
-use super::{ActiveSegment, Track};
+use super::{ActiveSegmentState, Track};
 
 // Whether a call whose frames make `held` in all goes on holding them.
 pub fn holds(finish: bool, warmup_frames: usize, held: usize) -> bool
@@ -13,23 +12,19 @@ pub fn holds(finish: bool, warmup_frames: usize, held: usize) -> bool
 }
 
 // Where the next segment can begin at the earliest, or the open one began.
-fn next_start(carry_start: u64, active: ActiveSegment) -> u64
+fn next_start(carry_start: u64, active: Option<ActiveSegmentState>) -> u64
     ensures { result ≡ next_of carry_start active }
 {
-    match active {
-        ActiveSegment::Closed => carry_start,
-        ActiveSegment::Open(segment) => lesser(carry_start, segment.start_sample),
-    }
+    active.map_or(carry_start, |segment| {
+        carry_start.min(segment.start_sample)
+    })
 }
 
 // A segment is reported with leading padding, so sound up to one padding before it is still undecided; but not what the last segment covered.
 fn decided_to(padding: u64, last_segment_end: u64, next: u64) -> u64
     ensures { result ≡ decided_to padding last_segment_end next }
 {
-    greater(
-        saturating_sub(next, padding),
-        lesser(last_segment_end, next),
-    )
+    next.saturating_sub(padding).max(last_segment_end.min(next))
 }
 
 // The first sample whose judgement can still change.
@@ -39,10 +34,6 @@ pub fn undecided_from(warming: bool, padding: u64, carry_start: u64, track: Trac
     if warming {
         return 0;
     }
-    let active = track.active_segment;
-    decided_to(
-        padding,
-        track.last_segment_end,
-        next_start(carry_start, active),
-    )
+    let next = next_start(carry_start, track.active_segment);
+    decided_to(padding, track.last_segment_end, next)
 }

@@ -3,18 +3,15 @@ ghost use Rattle.std.specs.Prelude.{◌≡◌};
 ghost use Rattle.vad_segments.specs.Judging.{active_to};
 ghost use Rattle.vad_segments.specs.Setters.{fresh_track};
 
-use super::{ActiveSegment, Track};
+use super::{ActiveSegmentState, Track};
 
-// With another segment: an enum is not stored to a field, so the record is written anew.
-pub fn with_active(track: Track, active: ActiveSegment) -> Track
+// With another segment.
+pub fn with_active(track: Track, active: Option<ActiveSegmentState>) -> Track
     ensures { result ≡ active_to active track }
 {
     Track {
-        noise_floor: track.noise_floor,
-        last_segment_end: track.last_segment_end,
-        rows_reported: track.rows_reported,
-        talk_samples: track.talk_samples,
         active_segment: active,
+        ..track
     }
 }
 
@@ -27,6 +24,6 @@ pub fn fresh_track(noise_floor: f32) -> Track
         last_segment_end: 0,
         rows_reported: 0,
         talk_samples: 0,
-        active_segment: ActiveSegment::Closed,
+        active_segment: None,
     }
 }

@@ -22,6 +22,11 @@ put_filled n xs h =
     let long = length-replicate n zero32 in
     sets_all (replicate n zero32) xs (omega arith) ∙ ap (λ (zs : List Float). xs ++ zs) (drop_replicate (length xs) n zero32)
 
+-- an array that is filled to its end
+pub filled_whole : (n : ℕ) (xs : List Float) → length xs ≡ n → filled_of n xs ≡ xs
+unfolding filled_of
+filled_whole n xs h = let e : n - length xs ≡ 0 = omega arith in ap (λ (k : ℕ). xs ++ replicate k zero32) e ∙ append-nil xs
+
 -- what `clear` leaves
 pub cleared : (to : List Float) (i : ℕ) → i ≤ length to → sets to i (replicate (length to - i) zero32) ≡ filled_of (length to) (take i to)
 unfolding filled_of

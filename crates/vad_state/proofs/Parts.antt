@@ -1,4 +1,5 @@
 -- What a sound state is, part by part. Assumes nothing.
+use Rattle.std.specs.Prelude.{None, Option, Some}
 use mathlib.Core.Path.{◌≡◌, refl, sym, ap, ◌∙◌}
 use mathlib.Core.Bool.{Bool, true, false, not, ◌&&◌, ◌||◌, true≢false}
 use mathlib.Core.List.{List}
@@ -20,8 +21,6 @@ use Rattle.vad_config.proofs.Laws as settled
 use Rattle.vad_segments.specs.Rooms.{LengthsWithin, ActiveWithin, Within, positions_first, counts_first}
 use Rattle.vad_segments.specs.declared.Rules.{Rules}
 use Rattle.vad_segments.specs.declared.ActiveSegmentState.{ActiveSegmentState}
-use Rattle.vad_segments.specs.declared.ActiveSegment.{ActiveSegment}
-use Rattle.vad_segments.specs.declared.ActiveSegment.TheVariants.{Closed, Open}
 use Rattle.vad_segments.specs.declared.Track.{Track}
 use Rattle.ranges.specs.Sizes.{frame_most, warmup_most, received_most}
 use Rattle.vad_state.specs.State.{loudest32, total32, window_of, carried_of, held_of, weights_in, same_lengths, settings_sound, carry_sound, track_sound, is_closed, held_sound, segment_sound, active_sound, sound_of}
@@ -40,16 +39,16 @@ pub record SegmentIn (hangover received last : ℕ) (s : ActiveSegmentState) : T
   pub energy : within zero32 s.energy_sum total32 ≡ true
   pub silence : s.silence_run ≤ hangover
 
-abbrev pub ActiveIn : ℕ → ℕ → ℕ → ActiveSegment → Type 0
-ActiveIn hangover received last Closed = Unit {0}
-ActiveIn hangover received last (Open s) = SegmentIn hangover received last s
+abbrev pub ActiveIn : ℕ → ℕ → ℕ → Option ActiveSegmentState → Type 0
+ActiveIn hangover received last None = Unit {0}
+ActiveIn hangover received last (Some s) = SegmentIn hangover received last s
 
 -- 'While warming'
 pub record HeldIn (d : VadDetector) : Type 0 where
   pub few : d.kept.desk.held < d.kept.rules.lengths.warmup_frames
   pub start : d.kept.desk.held * d.kept.rules.lengths.hop_length ≡ d.kept.stream.carry_start
   pub energies : all_within zero32 (held_of d) loudest32 ≡ true
-  pub closed : d.kept.desk.track.active_segment ≡ Closed
+  pub closed : d.kept.desk.track.active_segment ≡ None
 
 pub record Sound (d : VadDetector) : Type 0 where
   pub settings : refusal_of d.kept.rules.config ≡ 0
@@ -141,17 +140,17 @@ pub track_whole : (least : Float) (received : ℕ) (t : Track) → finite t.nois
 unfolding track_sound received_in
 track_whole least received t f n r e k o = rw (f, n, le-leb _ _ r, le-leb _ _ e, le-leb _ _ k, le-leb _ _ o)
 
-pub closed_parts : (a : ActiveSegment) → is_closed a ≡ true → a ≡ Closed
+pub closed_parts : (a : Option ActiveSegmentState) → is_closed a ≡ true → a ≡ None
 unfolding is_closed
-closed_parts Closed h = refl
-closed_parts (Open s) h = absurd (true≢false (sym h))
+closed_parts None h = refl
+closed_parts (Some s) h = absurd (true≢false (sym h))
 
-pub closed_whole : (a : ActiveSegment) → a ≡ Closed → is_closed a ≡ true
+pub closed_whole : (a : Option ActiveSegmentState) → a ≡ None → is_closed a ≡ true
 unfolding is_closed
 closed_whole a h = rw h
 
 pub held_parts : (l : Lengths) (warmup : List Float) (start : ℕ) (d : Desk) → held_sound l warmup start d ≡ true
-    → (d.held < l.warmup_frames) × (d.held * l.hop_length ≡ start) × (all_within zero32 (take d.held warmup) loudest32 ≡ true) × (d.track.active_segment ≡ Closed)
+    → (d.held < l.warmup_frames) × (d.held * l.hop_length ≡ start) × (all_within zero32 (take d.held warmup) loudest32 ≡ true) × (d.track.active_segment ≡ None)
 unfolding held_sound
 held_parts l warmup start d h =
     let few = ltb d.held l.warmup_frames in
@@ -162,7 +161,7 @@ held_parts l warmup start d h =
     let v = both few at u.0 in
     (ltb-true _ _ v.0, eqb-true _ _ v.1, u.1, closed_parts d.track.active_segment t.1)
 
-pub held_whole : (l : Lengths) (warmup : List Float) (start : ℕ) (d : Desk) → d.held < l.warmup_frames → d.held * l.hop_length ≡ start → all_within zero32 (take d.held warmup) loudest32 ≡ true → d.track.active_segment ≡ Closed
+pub held_whole : (l : Lengths) (warmup : List Float) (start : ℕ) (d : Desk) → d.held < l.warmup_frames → d.held * l.hop_length ≡ start → all_within zero32 (take d.held warmup) loudest32 ≡ true → d.track.active_segment ≡ None
     → held_sound l warmup start d ≡ true
 unfolding held_sound
 held_whole l warmup start d f s e c = rw (lt-ltb _ _ f, eq-eqb _ _ s, e, closed_whole d.track.active_segment c)
@@ -200,15 +199,15 @@ unfolding segment_sound
 segment_whole hangover received last s p =
     rw (le-leb _ _ p.after, le-leb _ _ p.start, le-leb _ _ p.loud_end, lt-ltb _ _ p.some, le-leb _ _ p.count, le-leb _ _ p.score, p.energy, le-leb _ _ p.silence)
 
-pub active_parts : (hangover received last : ℕ) (a : ActiveSegment) → active_sound hangover received last a ≡ true → ActiveIn hangover received last a
+pub active_parts : (hangover received last : ℕ) (a : Option ActiveSegmentState) → active_sound hangover received last a ≡ true → ActiveIn hangover received last a
 unfolding active_sound
-active_parts hangover received last Closed h = tt
-active_parts hangover received last (Open s) h = segment_parts hangover received last s h
+active_parts hangover received last None h = tt
+active_parts hangover received last (Some s) h = segment_parts hangover received last s h
 
-pub active_whole : (hangover received last : ℕ) (a : ActiveSegment) → ActiveIn hangover received last a → active_sound hangover received last a ≡ true
+pub active_whole : (hangover received last : ℕ) (a : Option ActiveSegmentState) → ActiveIn hangover received last a → active_sound hangover received last a ≡ true
 unfolding active_sound
-active_whole hangover received last Closed p = refl
-active_whole hangover received last (Open s) p = segment_whole hangover received last s p
+active_whole hangover received last None p = refl
+active_whole hangover received last (Some s) p = segment_whole hangover received last s p
 
 -- ---- a test that is asked only while warming
 pub asked : (w t : Bool) → (not w || t) ≡ true → w ≡ true → t ≡ true
@@ -273,9 +272,9 @@ whole d s =
     )
 
 -- ---- what follows: the lengths' bounds, and that no sum of a call passes 2^64
-active_within : (hangover received last : ℕ) (a : ActiveSegment) → hangover ≤ 10000 → received ≤ received_most → ActiveIn hangover received last a → ActiveWithin positions_first counts_first a
-active_within hangover received last Closed h r p = tt
-active_within hangover received last (Open s) h r p = (omega (arith, p.start), omega (arith, p.loud_end), omega (arith, p.score, p.count), omega (arith, p.count), omega (arith, p.silence))
+active_within : (hangover received last : ℕ) (a : Option ActiveSegmentState) → hangover ≤ 10000 → received ≤ received_most → ActiveIn hangover received last a → ActiveWithin positions_first counts_first a
+active_within hangover received last None h r p = tt
+active_within hangover received last (Some s) h r p = (omega (arith, p.start), omega (arith, p.loud_end), omega (arith, p.score, p.count), omega (arith, p.count), omega (arith, p.silence))
 
 module _ (d : VadDetector) (s : Sound d) where
   pub frame_low : 1 ≤ d.kept.rules.lengths.frame_length

@@ -1,5 +1,5 @@
 -- Document 01's list of what makes a state malformed, clause by clause: a state is sound where none of them holds.
-use Rattle.std.specs.Prelude.{Bool, true, false, not, ◌&&◌, ◌||◌, List, ℕ, ◌+◌, ◌*◌, leb, ltb, eqb, take, Float}
+use Rattle.std.specs.Prelude.{Bool, true, false, not, ◌&&◌, ◌||◌, List, ℕ, ◌+◌, ◌*◌, leb, ltb, eqb, take, Float, None, Option, Some}
 use Rattle.std.specs.Float.{binary32}
 use Rattle.std.specs.Float.Ieee.{of_bits, lt, neg}
 use Rattle.std.specs.Float.Ieee.Scale.{finite}
@@ -10,8 +10,6 @@ use Rattle.vad_config.specs.Settings.{lengths_of, refusal_of}
 use Rattle.vad_config.specs.declared.Lengths.{Lengths}
 use Rattle.vad_segments.specs.declared.Rules.{Rules}
 use Rattle.vad_segments.specs.declared.ActiveSegmentState.{ActiveSegmentState}
-use Rattle.vad_segments.specs.declared.ActiveSegment.{ActiveSegment}
-use Rattle.vad_segments.specs.declared.ActiveSegment.TheVariants.{Closed, Open}
 use Rattle.vad_segments.specs.declared.Track.{Track}
 use Rattle.vad_state.specs.declared.Stream.{Stream}
 use Rattle.vad_state.specs.declared.Desk.{Desk}
@@ -82,9 +80,9 @@ track_sound least received t =
     && leb t.rows_reported received
 
 -- ---- 'While warming: held frames reach the warm-up count, held × hop differs from carry start, a held energy isn't in [0, 131,072], or a segment is open'
-unfoldable pub is_closed : ActiveSegment → Bool
-is_closed Closed = true
-is_closed (Open s) = false
+unfoldable pub is_closed : Option ActiveSegmentState → Bool
+is_closed None = true
+is_closed (Some s) = false
 
 unfoldable pub held_sound : Lengths → List Float → ℕ → Desk → Bool
 held_sound l warmup start d =
@@ -105,9 +103,9 @@ segment_sound hangover received last s =
     && within zero32 s.energy_sum total32
     && leb s.silence_run hangover
 
-unfoldable pub active_sound : ℕ → ℕ → ℕ → ActiveSegment → Bool
-active_sound hangover received last Closed = true
-active_sound hangover received last (Open s) = segment_sound hangover received last s
+unfoldable pub active_sound : ℕ → ℕ → ℕ → Option ActiveSegmentState → Bool
+active_sound hangover received last None = true
+active_sound hangover received last (Some s) = segment_sound hangover received last s
 
 -- ---- 'A state is malformed when' one of these fails
 unfoldable pub sound_of : VadDetector → Bool

@@ -1,15 +1,11 @@
-use native.Mathlib.Omega.{arith}
-use Rattle.dc_door.proofs.Door.{open_short, open_written}
+use Rattle.std.proofs.Common.{rules, ◌≤◌, length, le-ltb, ap, ◌∙◌}
+use Rattle.refusals.specs.Refusals.{number_in}
+use Rattle.dc_highpass.specs.declared.Opened.{Opened}
+use Rattle.dc_door.specs.FilterDoor.{open_answer}
 use Rattle.dc_door.proofs.open.Goals as goal
 
-pub returns-then-state-lt25 : goal.returns-then-state-lt25
-returns-then-state-lt25 c =
-    let e = open_short c.args.config c.args.coefficients.now c.args.state.now (let t = c.if-state-lt25.true in omega arith) in
-    record { value = e.0; state_left = e.1 }
-
-pub returns : goal.returns
-returns c =
-    let o = c.opened-done in
-    let w = c.put_filter in
-    let e = open_written c.args.config c.args.coefficients.now c.args.state.now (let t = c.if-state-lt25.false in omega arith) o.result o.ensures w.new.words w.ensures in
-    record { value = e.0; state_left = e.1 }
+pub returns-clause-value : goal.returns-clause-value
+unfolding open_answer
+returns-clause-value c =
+    let long : 25 ≤ length c.args.state.now = search rules in
+    rw (le-ltb _ 25 long) (c.number_in.ensures ∙ ap (λ (o : Opened). number_in o.outcome) c.opened-done.ensures)

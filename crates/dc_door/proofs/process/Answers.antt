@@ -1,17 +1,14 @@
 use native.Mathlib.Omega.{arith}
 use lib.ListN.{length}
-use Rattle.dc_door.proofs.Door.{block_long, place_fits, process_kept, output_read}
+use Rattle.dc_door.proofs.Door.{place_fits, process_kept, output_read}
 use Rattle.dc_door.proofs.process.Goals as goal
 
 pub keep-requires : goal.keep-requires
 keep-requires c =
     let r = c.process-done in
     let e = rw c.filter_at.ensures at r.ensures in
-    let ws = c.args.state.now in
-    let xs = c.args.samples.now in
-    let room = length c.args.output.now in
-    let low = place_fits ws xs c.args.context room r.result e.value in
-    record { in_bounds = block_long ws xs c.args.context room r.result e.value; carried_bound = omega arith }
+    let low = place_fits c.args.state.now c.args.samples.now c.args.context (length c.args.output.now) r.result e.value in
+    omega arith
 
 pub returns : goal.returns
 returns c =

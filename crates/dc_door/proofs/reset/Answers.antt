@@ -1,16 +1,17 @@
-use lib.Dec.{lit≤}
-use Rattle.dc_door.proofs.Door.{reset_long, reset_kept}
+use native.Mathlib.Omega.{arith}
+use Rattle.dc_door.proofs.Door.{reset_carries, reset_kept}
 use Rattle.dc_door.proofs.reset.Goals as goal
 
 pub keep-requires : goal.keep-requires
 keep-requires c =
-    let r = c.reset-done in
+    let r = c.reset-cleared in
     let e = rw c.filter_at.ensures at r.ensures in
-    record { in_bounds = reset_long c.args.state.now r.result e; carried_bound = lit≤ tt }
+    let none = reset_carries c.args.state.now r.result e in
+    omega arith
 
 pub returns : goal.returns
 returns c =
-    let r = c.reset-done in
+    let r = c.reset-cleared in
     let e = rw c.filter_at.ensures at r.ensures in
     let k = c.keep in
     let at = reset_kept c.args.state.now r.result e k.result k.ensures.value k.new.state k.ensures.state_left in

@@ -1,20 +1,22 @@
-use mathlib.Core.Path.{◌≡◌, sym, ◌∙◌}
-use native.Mathlib.Omega.{arith}
-use lib.ListN.{length, set, length-set}
+use Rattle.std.proofs.Common.{◌≡◌, ◌+◌, ◌-◌, length, replicate, take, drop, ◌++◌, append_assoc, sym, ap, ◌∙◌, refl, arith}
+use Rattle.std.proofs.lemmas.List.Edits.{paste_all, sets-eq}
+use Rattle.std.proofs.lemmas.Slice.{put_mid-paste}
+use Rattle.std.proofs.lemmas.List.{length-take}
+use lib.ListN.{length-replicate, length-drop}
 use Rattle.float.specs.Numbers.{zero32}
-use Rattle.lists.proofs.Stores.{clear_step, clear_end}
 use Rattle.dc_highpass.proofs.clear.Goals as goal
 
-pub loop-i-preserved : goal.loop-i-preserved
-loop-i-preserved c =
-    let i = c.loop-i.i in
-    let end = c.args.end in
-    let long : length (set c.loop-i.output i zero32) ≡ length c.loop-i.output = simp length-set in (
-      omega arith,
-      omega arith,
-      long ∙ c.loop-i.invariant.2,
-      clear_step c.loop-i.output i end zero32 c.loop-i-test.true ∙ c.loop-i.invariant.3,
-    )
-
 pub returns : goal.returns
-returns c = sym (clear_end c.loop-i.output c.loop-i.i c.args.end zero32 c.loop-i-test.false) ∙ c.loop-i.invariant.3
+returns c =
+    let s = c.args in
+    let n = s.end - s.from in
+    let zeros = replicate n zero32 in
+    let long = length-replicate n zero32 in
+    let out = s.output.now in
+    let held : length (take n (drop s.from out)) ≡ n = omega (arith, length-take n (drop s.from out), length-drop s.from out, c.requires.0, c.requires.1) in
+    let filled : c.fill.new.self ≡ zeros = c.fill.ensures.after (λ y e. e) ∙ ap (λ k. replicate k zero32) held in
+    put_mid-paste s.from n out c.fill.new.self zeros n filled refl (sym long)
+    ∙ paste_all out s.from zeros n (sym long)
+    ∙ sym (append_assoc (take s.from out) zeros _)
+    ∙ ap (λ k. (take s.from out ++ zeros) ++ drop (s.from + k) out) (sym long)
+    ∙ sym (sets-eq zeros out s.from (omega (arith, long, c.requires.0, c.requires.1)))

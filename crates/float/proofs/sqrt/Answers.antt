@@ -1,10 +1,8 @@
-use Rattle.std.proofs.Common.{◌≡◌, ℕ, ◌+◌, ◌*◌, ◌^◌, ◌<◌, false, T, sym, ap, ◌∙◌, subst, ap₂, inl, inr, eq-zero-or-pos}
-use lib.Ieee.{Float, binary32, round, fits, to_bits}
+use Rattle.std.proofs.Common.{◌≡◌, ℕ, ◌<◌, T, sym, ap, ◌∙◌, subst, inl, inr, eq-zero-or-pos}
+use lib.Ieee.{Float, binary32, fits, to_bits}
 use Rattle.float.specs.Inside.{field_of}
-use Rattle.float.specs.Finite.{rounded}
-use Rattle.float.specs.Root.{twice_root}
 use Rattle.float.proofs.Words.{T_of}
-use Rattle.float.proofs.Decode.{Decoded, decoded, significand_lt, place_lt}
+use Rattle.float.proofs.Decode.{Decoded, decoded}
 use Rattle.float.proofs.RootExact.{no_root, zero_root, minus_root, plus_root}
 use Rattle.float.proofs.sqrt.Goals as goal
 
@@ -19,34 +17,27 @@ pub returns-then-field-eq255 : goal.returns-then-field-eq255
 returns-then-field-eq255 c =
     no_root c.args.x (T_of c.well_formed.0.1) (ap field_of (sym c.to_bits-b.ensures) ∙ sym c.field.ensures ∙ c.if-field-eq255.true)
 
-pub returns-then-m-eq0 : goal.returns-then-m-eq0
-returns-then-m-eq0 c =
+pub returns-then-significand-eq0 : goal.returns-then-significand-eq0
+returns-then-significand-eq0 c =
     let b = c.to_bits-b.result in
-    zero_root c.args.x b (known c.args.x b c.to_bits-b.ensures (T_of c.well_formed.0.1)) (λ e. c.if-field-eq255.false (c.field.ensures ∙ e)) (sym c.significand-m.ensures ∙ c.if-m-eq0.true)
+    zero_root c.args.x b (known c.args.x b c.to_bits-b.ensures (T_of c.well_formed.0.1)) (λ e. c.if-field-eq255.false (c.field.ensures ∙ e)) (sym c.significand.ensures ∙ c.if-significand-eq0.true)
 
 pub returns-then-negative : goal.returns-then-negative
 returns-then-negative c =
     let b = c.to_bits-b.result in
     minus_root c.args.x b (known c.args.x b c.to_bits-b.ensures (T_of c.well_formed.0.1))
     (λ e. c.if-field-eq255.false (c.field.ensures ∙ e))
-    (λ e. c.if-m-eq0.false (c.significand-m.ensures ∙ e))
+    (λ e. c.if-significand-eq0.false (c.significand.ensures ∙ e))
     (sym c.negative.ensures ∙ c.if-negative.true)
 
 pub positive_root-requires : goal.positive_root-requires
-positive_root-requires c =
-    let b = c.to_bits-b.result in
-    let s = c.significand-m in (
-      positive s.result c.if-m-eq0.false,
-      subst (λ (m : ℕ). m < 16777216) (sym s.ensures) (significand_lt b),
-      subst (λ (p : ℕ). p < 256) (sym c.place.ensures) (place_lt b),
-    )
+positive_root-requires c = positive _ (λ e. c.if-significand-eq0.false (c.significand.ensures ∙ e))
 
 pub returns : goal.returns
 returns c =
     let b = c.to_bits-b.result in
     c.positive_root.ensures
-    ∙ ap₂ (λ (m p : ℕ). rounded (round binary32 false (twice_root (m * 2 ^ (p + 150))) (2 ^ 151))) c.significand-m.ensures c.place.ensures
     ∙ plus_root c.args.x b (known c.args.x b c.to_bits-b.ensures (T_of c.well_formed.0.1))
     (λ e. c.if-field-eq255.false (c.field.ensures ∙ e))
-    (λ e. c.if-m-eq0.false (c.significand-m.ensures ∙ e))
+    (λ e. c.if-significand-eq0.false (c.significand.ensures ∙ e))
     (sym c.negative.ensures ∙ c.if-negative.false)

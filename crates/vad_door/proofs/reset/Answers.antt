@@ -1,9 +1,7 @@
 use mathlib.Core.Path.{◌≡◌, sym, ◌∙◌}
 use mathlib.Core.Bool.{true}
-use native.Mathlib.Omega.{arith}
 use Rattle.vad_memory.specs.DetectorState.{readable}
-use Rattle.vad_detector.specs.Run.{Reset, answered}
-use Rattle.vad_door.proofs.Door.{readable_long, call_unread, reset_refused, reset_put}
+use Rattle.vad_door.proofs.Door.{readable_long, reset_unread, reset_refused, reset_put}
 use Rattle.vad_door.proofs.reset.Goals.{Else-not-is_readable}
 use Rattle.vad_door.proofs.reset.Goals as goal
 
@@ -14,18 +12,17 @@ pub returns-then-not-is_readable : goal.returns-then-not-is_readable
 returns-then-not-is_readable c =
     let s = c.args in
     let bad = sym c.is_readable.ensures ∙ c.if-not-is_readable.true in
-    let ends = call_unread s.numbers.now s.floats.now (answered (Reset s.stream_start_time)) bad _ (omega arith) in
+    let ends = reset_unread s.numbers.now s.floats.now bad s.stream_start_time c.word.result c.word.ensures in
     record { value = ends.0; numbers_left = ends.1.0; floats_left = ends.1.1 }
 
 pub emptied-opened-requires : goal.emptied-opened-requires
 emptied-opened-requires c = good (goal.at.emptied-opened-requires c).Else-not-is_readable
 
-pub returns-then-opened-ne0 : goal.returns-then-opened-ne0
-returns-then-opened-ne0 c =
+pub returns-then-is_err : goal.returns-then-is_err
+returns-then-is_err c =
     let new = c.emptied-opened in
     let s = c.args in
-    let some : new.result.refusal ≡ 0 → ⊥ = (λ z. let t = c.if-opened-ne0.true in omega arith) in
-    let ends = reset_refused s.numbers.now s.floats.now (good (goal.at.returns-then-opened-ne0 c).Else-not-is_readable) s.stream_start_time new.result new.ensures _ (omega arith) some in
+    let ends = reset_refused s.numbers.now s.floats.now (good (goal.at.returns-then-is_err c).Else-not-is_readable) s.stream_start_time new.result new.ensures _ c.number_in.ensures (sym c.is_err.ensures.value ∙ c.if-is_err.true) in
     record { value = ends.0; numbers_left = ends.1.0; floats_left = ends.1.1 }
 
 pub put_opened-requires : goal.put_opened-requires
@@ -36,6 +33,5 @@ returns c =
     let put = c.put_opened in
     let new = c.emptied-opened in
     let s = c.args in
-    let none : new.result.refusal ≡ 0 = (let t = c.if-opened-ne0.false in omega arith) in
-    let ends = reset_put s.numbers.now s.floats.now (good (goal.at.returns c).Else-not-is_readable) s.stream_start_time new.result new.ensures put.result put.ensures.value none put.new.numbers put.ensures.numbers_left put.new.floats put.ensures.floats_left in
+    let ends = reset_put s.numbers.now s.floats.now (good (goal.at.returns c).Else-not-is_readable) s.stream_start_time new.result new.ensures put.result put.ensures.value (sym c.is_err.ensures.value ∙ c.if-is_err.false) put.new.numbers put.ensures.numbers_left put.new.floats put.ensures.floats_left in
     record { value = ends.0; numbers_left = ends.1.0; floats_left = ends.1.1 }

@@ -3,16 +3,14 @@ use mathlib.Core.Bool.{true≢false}
 use Rattle.float.proofs.Words.{T_of}
 use Rattle.ranges.proofs.Laws.{all_finite}
 use Rattle.vad_frames.proofs.all_finite.Goals as goal
+use Rattle.vad_frames.proofs.all_finite.Goals.{then-is_finite, else-is_finite}
 
-pub returns-then-not-is_finite : goal.returns-then-not-is_finite
-returns-then-not-is_finite c = λ h. absurd (true≢false (sym h))
-
-pub returns-then-not-is_finite-2 : goal.returns-then-not-is_finite-2
-returns-then-not-is_finite-2 c = λ h. absurd (true≢false (sym h))
-
-pub returns : goal.returns
-returns c = λ h.
-    let a = c.args in
-    let first = sym c.is_finite.ensures ∙ c.if-not-is_finite.false in
-    let second = sym c.is_finite-2.ensures ∙ c.if-not-is_finite-2.false in
-    (T_of first, T_of second, all_finite a.samples.now (sym c.all_inside.ensures ∙ h))
+pub returns-then-is_finite-2 : goal.returns-then-is_finite-2
+returns-then-is_finite-2 c = λ h. elim c.if-is_finite.branch [
+  | then-is_finite w ↦ (
+    T_of (sym c.is_finite.ensures ∙ w.if-is_finite.true),
+    T_of (sym w.is_finite-then-is_finite.ensures ∙ sym w.value-is ∙ c.if-is_finite-2.true),
+    all_finite c.args.samples.now (sym c.all_inside.ensures ∙ h),
+  )
+  | else-is_finite w ↦ absurd (true≢false (sym c.if-is_finite-2.true ∙ w.value-is ∙ w.if-is_finite.false))
+]

@@ -5,6 +5,6 @@ pub returns-then-has_pre_emphasis : goal.returns-then-has_pre_emphasis
 unfolding coefficient_of
 returns-then-has_pre_emphasis c = simp c.if-has_pre_emphasis.true
 
-pub returns : goal.returns
+pub returns-else-has_pre_emphasis : goal.returns-else-has_pre_emphasis
 unfolding coefficient_of
-returns c = simp c.if-has_pre_emphasis.false
+returns-else-has_pre_emphasis c = simp c.if-has_pre_emphasis.false

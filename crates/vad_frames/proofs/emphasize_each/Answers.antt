@@ -19,14 +19,13 @@ loop-i-preserved c =
     let x = get_or xs i nan in
     let inside : i < length xs = omega arith in
     let long : length (set vs i (emphasized_of a p x)) ≡ length vs = simp length-set in
-    rw c.emphasize-value.ensures (
-      omega arith,
-      long ∙ c.loop-i.invariant.1,
-      sets_cons vs i (emphasized_of a p x) (emphasized a x (drop (i + 1) xs)) ∙ ap (sets vs i) (sym (emphasized_step i xs inside a p)) ∙ c.loop-i.invariant.2,
+    rw c.emphasize.ensures (
+      long ∙ c.loop-i.invariant.0,
+      sets_cons vs i (emphasized_of a p x) (emphasized a x (drop (i + 1) xs)) ∙ ap (sets vs i) (sym (emphasized_step i xs inside a p)) ∙ c.loop-i.invariant.1,
     )
 
 pub returns : goal.returns
 returns c =
     let xs = c.args.samples.now in
     let over : length xs ≤ c.loop-i.i = omega arith in
-    rw (emphasized_end c.args.coeff c.loop-i.last c.loop-i.i xs over) at c.loop-i.invariant.2
+    rw (emphasized_end c.args.coeff c.loop-i.last c.loop-i.i xs over) at c.loop-i.invariant.1

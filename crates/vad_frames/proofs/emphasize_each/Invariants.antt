@@ -1,12 +1,8 @@
 use mathlib.Core.Path.{◌≡◌}
-use Prim.Native.Nat.{◌≤◌, ◌-◌}
 use lib.ListN.{length, drop}
 use lib.Seq.{sets}
 use Rattle.vad_frames.specs.Emphasis.{emphasized}
 use Rattle.vad_frames.proofs.emphasize_each.Given as goal
 
 abbrev pub invariant-loop-i : goal.invariant-loop-i
-invariant-loop-i l = (l.i ≤ length l.samples) × (length l.values ≡ length l.initial.values) × (sets l.values l.i (emphasized l.coeff l.last (drop l.i l.samples)) ≡ sets l.initial.values 0 (emphasized l.coeff l.previous l.samples))
-
-abbrev pub decreases-loop-i : goal.decreases-loop-i
-decreases-loop-i l = length l.samples - l.i
+invariant-loop-i l = (length l.values ≡ length l.initial.values) × (sets l.values l.i (emphasized l.coeff l.last (drop l.i l.samples)) ≡ sets l.initial.values 0 (emphasized l.coeff l.previous l.samples))

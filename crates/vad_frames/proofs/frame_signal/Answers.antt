@@ -10,13 +10,13 @@ returns-then-finish c =
     let g = c.args in
     record { value = framed_flushed g.finish g.window.now g.hop_length g.values.now c.measure-frames.result c.measure-frames.ensures.value c.if-finish.true; energies_left = c.measure-frames.ensures.energies_left }
 
+pub returns-else-finish : goal.returns-else-finish
+returns-else-finish c =
+    let g = c.args in
+    record { value = framed_whole g.finish g.window.now g.hop_length g.values.now c.measure-frames.result c.measure-frames.ensures.value c.if-finish.false c.min-consumed.result c.min-consumed.ensures; energies_left = c.measure-frames.ensures.energies_left }
+
 pub overflow_mul-frames : goal.overflow_mul-frames
 overflow_mul-frames c =
     let g = c.args in
     let w = rw (← c.measure-frames.ensures.value) at (frames_within g.finish (length g.window.now) g.hop_length (omega arith) g.values.now) in
     search rules
-
-pub returns : goal.returns
-returns c =
-    let g = c.args in
-    record { value = framed_whole g.finish g.window.now g.hop_length g.values.now c.measure-frames.result c.measure-frames.ensures.value c.if-finish.false c.lesser.result c.lesser.ensures; energies_left = c.measure-frames.ensures.energies_left }

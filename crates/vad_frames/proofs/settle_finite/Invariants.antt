@@ -1,6 +1,5 @@
 use mathlib.Core.Path.{◌≡◌}
 use mathlib.Core.Bool.{true}
-use Prim.Native.Nat.{◌≤◌, ◌-◌}
 use lib.Dec.{T}
 use lib.ListN.{length, drop}
 use lib.Seq.{sets}
@@ -11,7 +10,4 @@ use Rattle.vad_frames.proofs.settle_finite.Given as goal
 
 abbrev pub invariant-loop-i : goal.invariant-loop-i
 invariant-loop-i l =
-    (l.i ≤ length l.samples) × (length l.values ≡ length l.initial.values) × T (finite l.prior) × (l.all ≡ true → sets l.values l.i (emphasized l.coeff l.prior (drop l.i l.samples)) ≡ sets l.initial.values 0 (emphasized l.coeff l.previous l.samples)) × SamePast (length l.samples) l.values l.initial.values
-
-abbrev pub decreases-loop-i : goal.decreases-loop-i
-decreases-loop-i l = length l.samples - l.i
+    (length l.values ≡ length l.initial.values) × T (finite l.prior) × (l.all ≡ true → sets l.values l.i (emphasized l.coeff l.prior (drop l.i l.samples)) ≡ sets l.initial.values 0 (emphasized l.coeff l.previous l.samples)) × SamePast (length l.samples) l.values l.initial.values

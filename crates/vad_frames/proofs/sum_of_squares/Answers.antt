@@ -14,8 +14,8 @@ loop-i-preserved c =
     let i = c.loop-i.i in
     let inside : i < length xs = omega arith in
     let beside : i < length ws = omega arith in
-    (omega arith, squares_step c.loop-i.total i xs ws inside beside ∙ c.loop-i.invariant.1)
+    squares_step c.loop-i.total i xs ws inside beside ∙ c.loop-i.invariant
 
 pub returns : goal.returns
 returns c =
-    sym (squares_end c.loop-i.total c.loop-i.i c.args.frame.now c.args.window.now (omega arith)) ∙ c.loop-i.invariant.1
+    sym (squares_end c.loop-i.total c.loop-i.i c.args.frame.now c.args.window.now (omega arith)) ∙ c.loop-i.invariant

@@ -1,11 +1,13 @@
 use mathlib.Core.Path.{◌≡◌, refl, ap, subst, ◌∙◌}
 use lib.ListN.{length}
+use Prim.Native.Nat.{◌+◌}
+use Rattle.std.specs.Prelude.{IfOk}
 use Rattle.vad_state.specs.State.{state_of, sound_of}
 use Rattle.vad_state.specs.declared.VadDetector.{VadDetector}
 use Rattle.vad_state.proofs.Parts.{parts, frame_high}
 use Rattle.vad_call.specs.Calls.{ran_of, written_of, settled_of}
 use Rattle.vad_lent.specs.Lent.{state_at}
-use Rattle.vad_lent.proofs.Laws.{parts_long, state_lent, ran_refusal, ran_tally, ran_arrays}
+use Rattle.vad_lent.proofs.Laws.{parts_long, state_lent, ran_tallied, ran_arrays, kept_told}
 use Rattle.vad_lent.proofs.hear_at.Goals.{After-warmup_in}
 use Rattle.vad_lent.proofs.hear_at.Goals as goal
 
@@ -20,19 +22,19 @@ same w =
     let carry = w.carry_in in
     state_lent s.kept s.floats.now window.result.now carry.result.now w.warmup_in.result.now window.ensures carry.ensures w.warmup_in.ensures
 
-pub hear-heard-requires : goal.hear-heard-requires
-hear-heard-requires c =
-    let long = parts_long c.args.floats.now c.requires.singles_first_in_bounds.0 in record { warmup_value = ap sound_of (same (goal.at.hear-heard-requires c).After-warmup_in) ∙ c.requires.floats_value; window_len = (ap length c.window_in.ensures ∙ long.0, ap length c.carry_in.ensures ∙ long.1, ap length c.warmup_in.ensures ∙ long.2, refl, refl); samples_len_bound = (c.requires.singles_first_in_bounds.1, c.requires.singles_first_in_bounds.2) }
+pub hear-hearing-requires : goal.hear-hearing-requires
+hear-hearing-requires c =
+    let long = parts_long c.args.floats.now c.requires.singles_first_in_bounds.0 in record { warmup_value = ap sound_of (same (goal.at.hear-hearing-requires c).After-warmup_in) ∙ c.requires.floats_value; window_len = (ap length c.window_in.ensures ∙ long.0, ap length c.carry_in.ensures ∙ long.1, ap length c.warmup_in.ensures ∙ long.2, refl, refl); samples_len_bound = (c.requires.singles_first_in_bounds.1, c.requires.singles_first_in_bounds.2) }
 
 pub settle_at-requires : goal.settle_at-requires
 unfolding state_at
 settle_at-requires c =
-    let h = c.hear-heard in
+    let h = c.hear-hearing in
     record { singles_first_in_bounds = (c.requires.singles_first_in_bounds.0, frame_high (state_at c.args.kept c.args.floats.now) (parts (state_at c.args.kept c.args.floats.now) c.requires.floats_value), h.auto.values, h.auto.energies); carry_len_bound = h.ensures.carry_len_bound }
 
 pub returns : goal.returns
 returns c =
-    let h = c.hear-heard in
+    let h = c.hear-hearing in
     let s = c.args in
     let fs = s.floats.now in
     let xs = s.samples.now in
@@ -40,4 +42,4 @@ returns c =
     let values = h.new.values in
     let energies = h.new.energies in
     let ran = ran_of s.finish (state_at s.kept fs) xs room in
-    let ends : ran ≡ settled_of h.result values energies (state_at s.kept fs) = subst (λ (d : VadDetector). ran_of s.finish d xs room ≡ settled_of h.result values energies d) (same (goal.at.returns c).After-warmup_in) h.ensures.rows_value in record { refusal_value = (ran_refusal s.kept fs h.result values energies ran ends, ran_tally s.kept fs h.result values energies ran ends, h.ensures.kept_value.0 ∙ ap (λ (d : VadDetector). (ran_of s.finish d xs room).detector.kept) (same (goal.at.returns c).After-warmup_in)); floats_left = ran_arrays s.kept fs h.result values energies ran ends _ c.settle_at.ensures; rows_left = h.ensures.rows_left ∙ ap (λ (d : VadDetector). written_of s.finish d xs s.rows.now) (same (goal.at.returns c).After-warmup_in) }
+    let ends : ran ≡ settled_of h.result values energies (state_at s.kept fs) = subst (λ (d : VadDetector). ran_of s.finish d xs room ≡ settled_of h.result values energies d) (same (goal.at.returns c).After-warmup_in) h.ensures.rows_value in record { refusal_value = (ran_tallied s.kept fs values energies h.result ran ends, kept_told _ s.kept.stream.carry_start h.result (subst (λ (d : VadDetector). IfOk h.result (λ x. (x.kept ≡ (ran_of s.finish d xs room).detector.kept) × (x.kept.stream.carry_start ≡ s.kept.stream.carry_start + x.consumed))) (same (goal.at.returns c).After-warmup_in) h.ensures.kept_value)); floats_left = ran_arrays s.kept fs values energies h.result ran ends _ c.settle_at.ensures; rows_left = h.ensures.rows_left ∙ ap (λ (d : VadDetector). written_of s.finish d xs s.rows.now) (same (goal.at.returns c).After-warmup_in) }

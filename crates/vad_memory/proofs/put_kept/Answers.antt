@@ -1,21 +1,33 @@
-use mathlib.Core.Path.{ap, ◌∙◌}
-use lib.Seq.{sets}
-use Rattle.vad_layout.proofs.InFloats as in-floats
-use Rattle.vad_memory.proofs.Parts.{Long, long_parts}
-use Rattle.vad_memory.proofs.Put.{numbers_put}
-use borrow.Author.Rules.{rules}
-use Rattle.vad_memory.proofs.put_kept.Goals.{Start}
+use mathlib.Core.Path.{refl, sym, ap, ◌∙◌}
+use mathlib.Core.List.{◌++◌}
+use native.Mathlib.Omega.{arith}
+use lib.ListN.{length, drop}
+use lib.Seq.{length-take-le}
+use Rattle.vad_layout.specs.Layout.{numbers_most, singles_first}
+use Rattle.vad_memory.specs.DetectorState.{singles_of, numbers_written}
+use Rattle.vad_memory.proofs.Parts.{long_parts}
+use Rattle.vad_memory.proofs.Put.{numbers_count, put_at}
 use Rattle.vad_memory.proofs.put_kept.Goals as goal
 
-told : (s : Start) → Long s.args.numbers.now s.args.floats.now
-told s = long_parts s.args.numbers.now s.args.floats.now s.requires
+pub slice_bounds-copy_from_slice-end : goal.slice_bounds-copy_from_slice-end
+slice_bounds-copy_from_slice-end c = (long_parts _ _ c.requires).numbers
 
-pub put_numbers-requires : goal.put_numbers-requires
-put_numbers-requires c = let long = (told (goal.at.put_numbers-requires c).Start).numbers in search rules
+pub slice_bounds-copy_from_slice-end-2 : goal.slice_bounds-copy_from_slice-end-2
+slice_bounds-copy_from_slice-end-2 c = sym (length-take-le numbers_most c.args.numbers.now (long_parts _ _ c.requires).numbers)
 
-pub put_floats-requires : goal.put_floats-requires
-put_floats-requires c = let long = (told (goal.at.put_floats-requires c).Start).floats in search rules
+pub copy_from_slice-requires : goal.copy_from_slice-requires
+copy_from_slice-requires c =
+    length-take-le numbers_most c.args.numbers.now (long_parts _ _ c.requires).numbers ∙ sym (ap length c.numbers_of.ensures ∙ numbers_count c.args.kept c.args.tally)
 
-pub returns : goal.returns
-returns c =
-    let ns = c.args.numbers.now in record { numbers_left = c.put_numbers.ensures ∙ ap (sets ns 0) c.numbers_of.ensures ∙ numbers_put c.args.kept c.args.tally ns (told (goal.at.returns c).Start).numbers; floats_left = c.put_floats.ensures ∙ ap (sets c.args.floats.now in-floats.singles) c.singles_of.ensures }
+pub slice_bounds-copy_from_slice-end-4 : goal.slice_bounds-copy_from_slice-end-4
+slice_bounds-copy_from_slice-end-4 c = let long = (long_parts _ _ c.requires).floats in omega arith
+
+pub returns-clause-numbers_left : goal.returns-clause-numbers_left
+unfolding numbers_written
+returns-clause-numbers_left c = ap (λ ns. ns ++ drop numbers_most c.args.numbers.now) (c.copy_from_slice.ensures.after ∙ c.numbers_of.ensures)
+
+pub returns-clause-floats_left : goal.returns-clause-floats_left
+unfolding singles_of
+returns-clause-floats_left c =
+    let long = (long_parts _ _ c.requires).floats in
+    put_at c.args.floats.now _ _ singles_first (c.copy_from_slice-2.ensures.after ∙ c.singles_of.ensures) refl (omega arith)

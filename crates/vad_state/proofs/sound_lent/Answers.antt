@@ -1,23 +1,26 @@
 use mathlib.Core.Path.{◌≡◌, sym, ◌∙◌}
 use mathlib.Core.Bool.{true}
-use Rattle.vad_state.specs.State.{state_of}
-use Rattle.vad_state.proofs.Tests.{stream_test, not_stream, not_judged, all_sound, warmup_short, hop_short}
-use Rattle.vad_state.proofs.sound_lent.Goals.{Else-not-stream_sound}
+use Rattle.std.proofs.Common.{arith}
+use Rattle.std.proofs.lemmas.Grind.{common_steps}
+use Rattle.vad_state.specs.State.{settings_sound, track_sound}
+use Rattle.vad_state.proofs.Parts.{settings_parts, track_parts}
+use Rattle.vad_state.proofs.Tests.{frame_short, hop_short, warmup_short}
 use Rattle.vad_state.proofs.sound_lent.Goals as goal
 
-streamed : (k : Else-not-stream_sound) → stream_test (state_of k.args.kept k.args.window.now k.args.carry.now k.args.warmup.now) ≡ true
-streamed k = sym k.stream_sound.ensures ∙ k.if-not-stream_sound.false
+pub carry_sound-requires : goal.carry_sound-requires
+carry_sound-requires c =
+    let set = settings_parts c.args.kept.rules c.args.window.now (sym c.settings_sound.ensures ∙ c.if-settings_sound.true) in
+    (frame_short c.args.kept.rules set.0 set.1, c.requires.1)
 
-pub returns-then-not-stream_sound : goal.returns-then-not-stream_sound
-returns-then-not-stream_sound c = not_stream (state_of c.args.kept c.args.window.now c.args.carry.now c.args.warmup.now) (sym c.stream_sound.ensures ∙ c.if-not-stream_sound.true)
+pub held_sound-requires : goal.held_sound-requires
+held_sound-requires c =
+    let a = c.args in
+    let settled : settings_sound a.kept.rules a.window.now ≡ true = grind (arith, common_steps) in
+    let set = settings_parts a.kept.rules a.window.now settled in
+    (warmup_short a.kept.rules set.0 set.1, hop_short a.kept.rules set.0 set.1, c.requires.2)
 
-pub returns-then-not-judging_sound : goal.returns-then-not-judging_sound
-returns-then-not-judging_sound c = not_judged (state_of c.args.kept c.args.window.now c.args.carry.now c.args.warmup.now) (sym c.judging_sound.ensures ∙ c.if-not-judging_sound.true)
-
-pub warmup_sound-requires : goal.warmup_sound-requires
-warmup_sound-requires c =
-    (warmup_short (state_of c.args.kept c.args.window.now c.args.carry.now c.args.warmup.now) (streamed (goal.at.warmup_sound-requires c).Else-not-stream_sound), hop_short (state_of c.args.kept c.args.window.now c.args.carry.now c.args.warmup.now) (streamed (goal.at.warmup_sound-requires c).Else-not-stream_sound), c.requires.2)
-
-pub returns : goal.returns
-returns c =
-    c.warmup_sound.ensures ∙ all_sound (state_of c.args.kept c.args.window.now c.args.carry.now c.args.warmup.now) (streamed (goal.at.returns c).Else-not-stream_sound) (sym c.judging_sound.ensures ∙ c.if-not-judging_sound.false)
+pub active_sound-requires : goal.active_sound-requires
+active_sound-requires c =
+    let a = c.args in
+    let tracked : track_sound a.kept.rules.config.energy_floor a.kept.stream.processed_samples a.kept.desk.track ≡ true = grind (arith, common_steps) in
+    (track_parts _ _ _ tracked).2

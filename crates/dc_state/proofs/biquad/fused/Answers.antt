@@ -1,12 +1,12 @@
 use mathlib.Core.Path.{◌≡◌, refl, ap, ◌∙◌}
-use lib.Ieee.{Float, nan, binary32, of_bits, div}
+use lib.Ieee.{Float, nan, binary32, of_bits}
 use Rattle.float.specs.Finite.{or_else}
 use Rattle.float.specs.Fused.{fused_of}
 use Rattle.dc_state.proofs.biquad.fused.Goals as goal
 
--- the code's 0.0 / 0.0
-no_number : div binary32 (of_bits binary32 0) (of_bits binary32 0) ≡ nan
-unfolding div of_bits
+-- `f32::NAN`, by its bits
+no_number : of_bits binary32 0x7FC0_0000 ≡ nan
+unfolding of_bits
 no_number = refl
 
 pub returns : goal.returns

@@ -45,23 +45,13 @@ whole x y z s t u p c e f g h k =
     ∙ ap (λ (b : ℕ). rounded (sum binary32 (unlike (sign_of x) (sign_of y)) (M x * M y * 2 ^ 14 * 2 ^ E x y) (sign_of z) (b * 2 ^ 38 * 2 ^ (Q z + 126)) (2 ^ 314))) k
     ∙ ap₂ (λ (a b : ℕ). rounded (sum binary32 (unlike (sign_of x) (sign_of y)) a (sign_of z) b (2 ^ 314))) (product_is x y) (addend_is z)
 
-pub overflow_mul-p : goal.overflow_mul-p
-overflow_mul-p c =
-    record { fits = lt_of_lt_of_le (product_lt c.significand.result c.significand-2.result c.args.x c.args.y c.significand.ensures c.significand-2.ensures) (lit≤ tt) }
-
-pub product_exponent-e-requires : goal.product_exponent-e-requires
-product_exponent-e-requires c = (exponent_small c.exponent.result c.args.x c.exponent.ensures, exponent_small c.exponent-2.result c.args.y c.exponent-2.ensures)
-
-pub addend_exponent-requires : goal.addend_exponent-requires
-addend_exponent-requires c = exponent_small c.exponent-3.result c.args.z c.exponent-3.ensures
-
 pub aligned_sum-requires : goal.aligned_sum-requires
 aligned_sum-requires c =
-    let e = product-place c.product_exponent-e.result c.significand.result c.significand-2.result c.exponent.result c.exponent-2.result c.args.x c.args.y c.significand.ensures c.significand-2.ensures c.exponent.ensures c.exponent-2.ensures c.product_exponent-e.ensures in
+    let e = product-place c.product_exponent.result c.significand.result c.significand-2.result c.exponent.result c.exponent-2.result c.args.x c.args.y c.significand.ensures c.significand-2.ensures c.exponent.ensures c.exponent-2.ensures c.product_exponent.ensures in
     let d = c.addend_exponent.ensures (Q c.args.z) (exponent-held c.exponent-3.result c.args.z c.exponent-3.ensures) in (
       product_lt c.significand.result c.significand-2.result c.args.x c.args.y c.significand.ensures c.significand-2.ensures,
       subst (λ (m : ℕ). m < 16777216) (sym c.significand-3.ensures) (significand_lt c.args.z),
-      placed-small c.product_exponent-e.result (E c.args.x c.args.y) (E-small c.args.x c.args.y) e,
+      placed-small c.product_exponent.result (E c.args.x c.args.y) (E-small c.args.x c.args.y) e,
       placed-small c.addend_exponent.result (Q c.args.z + 126) (addend_small c.args.z) d,
     )
 
@@ -72,11 +62,11 @@ returns c =
     let z = c.args.z in
     let m = c.significand.result in
     let n = c.significand-2.result in
-    let e = product-place c.product_exponent-e.result m n c.exponent.result c.exponent-2.result x y c.significand.ensures c.significand-2.ensures c.exponent.ensures c.exponent-2.ensures c.product_exponent-e.ensures in
+    let e = product-place c.product_exponent.result m n c.exponent.result c.exponent-2.result x y c.significand.ensures c.significand-2.ensures c.exponent.ensures c.exponent-2.ensures c.product_exponent.ensures in
     let d = c.addend_exponent.ensures (Q z) (exponent-held c.exponent-3.result z c.exponent-3.ensures) in
     let p : m * n ≡ M x * M y = ap₂ (λ (k l : ℕ). k * l) c.significand.ensures c.significand-2.ensures in
     let q : c.significand-3.result ≡ M z = c.significand-3.ensures in
-    c.aligned_sum.ensures (E x y) (Q z + 126) (placed-held c.product_exponent-e.result (E x y) (E-small x y) e) (placed-held c.addend_exponent.result (Q z + 126) (addend_small z) d)
+    c.aligned_sum.ensures (E x y) (Q z + 126) (placed-held c.product_exponent.result (E x y) (E-small x y) e) (placed-held c.addend_exponent.result (Q z + 126) (addend_small z) d)
     (subst (λ (k : ℕ). (8388608 ≤ k) ⊎ (E x y ≤ 163)) (sym p) (product_placed x y))
     (subst (λ (k : ℕ). (8388608 ≤ k) ⊎ (Q z + 126 ≤ 163)) (sym q) (addend_placed z))
     ∙ whole x y z c.negative.result c.negative-2.result c.negative-3.result (m * n) c.significand-3.result c.negative.ensures c.negative-2.ensures c.negative-3.ensures p q

@@ -1,7 +1,6 @@
-use Rattle.std.proofs.Common.{◌≡◌, ℕ, ◌+◌, ◌*◌, ◌/◌, ◌%◌, ◌^◌, ◌<◌, ◌≤◌, Bool, cond, eqb, sym, ap, ◌∙◌, subst, ap₂, lt_of_lt_of_le, mod-eq_of_lt, arith, pow_pos, pow_mono, eq-eqb, ne_eqb}
-use lib.Pow.{shr_le}
+use Rattle.std.proofs.Common.{◌≡◌, ℕ, ◌+◌, ◌*◌, ◌/◌, ◌%◌, ◌^◌, ◌<◌, ◌≤◌, Bool, cond, eqb, sym, ap, ◌∙◌, ap₂, lt_of_lt_of_le, mod-eq_of_lt, arith, pow_mono, eq-eqb, ne_eqb}
 use Rattle.float.specs.Inside.{jam_of}
-use Rattle.float.proofs.Words.{unit_is, mask_is, far}
+use Rattle.float.proofs.Words.{mask_is, far}
 use Rattle.float.proofs.fused.jam.Goals as goal
 
 -- all digits are cut off
@@ -13,32 +12,17 @@ all-cut m d h g =
 within : (d : ℕ) → d ≤ 63 → d < 64
 within d h = omega arith
 
-pub returns-then-m-eq0 : goal.returns-then-m-eq0
-returns-then-m-eq0 c =
-    let m = c.args.m in
-    let d = c.args.d in
-    sym (all-cut m d c.ranges.m.fits c.if-d-gt63.true ∙ ap (λ (b : Bool). cond b 0 1) (eq-eqb m 0 c.if-m-eq0.true))
-
 pub returns-else-m-eq0 : goal.returns-else-m-eq0
 returns-else-m-eq0 c =
     let m = c.args.m in
     let d = c.args.d in
     sym (all-cut m d c.ranges.m.fits c.if-d-gt63.true ∙ ap (λ (b : Bool). cond b 0 1) (ne_eqb m 0 c.if-m-eq0.false))
 
-pub overflow_sub-cut : goal.overflow_sub-cut
-overflow_sub-cut c = subst (λ (x : ℕ). 1 ≤ x) (sym (unit_is c.args.d (within c.args.d c.if-d-gt63.false))) (pow_pos c.args.d)
-
 pub returns-then-cut-eq0 : goal.returns-then-cut-eq0
 returns-then-cut-eq0 c =
     let m = c.args.m in
     let d = c.args.d in
     sym (ap (λ (b : Bool). cond b (m / 2 ^ d) (m / 2 ^ d / 2 * 2 + 1)) (eq-eqb (m % 2 ^ d) 0 (sym (mask_is m d (within d c.if-d-gt63.false)) ∙ c.if-cut-eq0.true)))
-
-pub overflow_mul-result : goal.overflow_mul-result
-overflow_mul-result c = omega (arith, shr_le c.args.m c.args.d)
-
-pub overflow_add-result : goal.overflow_add-result
-overflow_add-result c = omega (arith, shr_le c.args.m c.args.d)
 
 pub returns : goal.returns
 returns c =

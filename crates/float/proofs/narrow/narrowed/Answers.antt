@@ -1,10 +1,10 @@
-use Rattle.std.proofs.Common.{◌≡◌, ℕ, ◌+◌, ◌-◌, ◌*◌, ◌/◌, ◌%◌, ◌^◌, ◌<◌, ◌≤◌, sym, ap, ◌∙◌, subst, ap₂, arith, pow_pos, pow_mono}
+use Rattle.std.specs.Prelude.{Some}
+use Rattle.std.proofs.Common.{◌≡◌, ℕ, ◌+◌, ◌-◌, ◌*◌, ◌/◌, ◌%◌, ◌^◌, ◌<◌, ◌≤◌, sym, ap, ◌∙◌, subst, ap₂, arith}
 use lib.Bits.{bit_and}
 use lib.Ieee.{binary32, of_bits}
-use Rattle.float.specs.declared.Rounded.TheVariants.{Finite}
 use Rattle.float.specs.Inside.{Narrowed}
 use Rattle.float.proofs.Words.{unit_is, mask_is, unit_twice, no_nan}
-use Rattle.float.proofs.Twice.{none, some, zeros, lows, low_le}
+use Rattle.float.proofs.Twice.{some, zeros, lows, low_le}
 use Rattle.float.proofs.narrow.narrowed.Goals as goal
 
 -- of a subnormal: the digits that are cut off, and the significand
@@ -15,14 +15,8 @@ abbrev K : ℕ → ℕ
 K b = b % 0x8000_0000_0000_0000 % 0x10_0000_0000_0000 + 0x10_0000_0000_0000
 
 module _ (b : ℕ) (lo : 0x3600_0000_0000_0000 ≤ b % 0x8000_0000_0000_0000) (hi : b % 0x8000_0000_0000_0000 ≤ 0x3810_0000_0000_0000) where
-  unit-pos : 1 ≤ 1 * 2 ^ S b % 18446744073709551616
-  unit-pos = subst (λ (x : ℕ). 1 ≤ x) (sym (unit_is (S b) (omega arith))) (pow_pos (S b))
-
   half_is : 1 * 2 ^ (S b - 1) % 18446744073709551616 ≡ 2 ^ (S b - 1)
   half_is = unit_is (S b - 1) (omega arith)
-
-  half_le : 1 * 2 ^ (S b - 1) % 18446744073709551616 ≤ 4611686018427387904
-  half_le = subst (λ (x : ℕ). x ≤ 4611686018427387904) (sym half_is) (pow_mono {i = S b - 1} {j = 62} (omega arith))
 
   low-is : (K b + 1 * 2 ^ (S b - 1) % 18446744073709551616) / 2 ^ S b ≡ (K b + 2 ^ (S b - 1)) / (2 * 2 ^ (S b - 1))
   low-is = ap₂ (λ (h u : ℕ). (K b + h) / u) half_is (sym (unit_twice (S b) (omega arith)))
@@ -31,31 +25,16 @@ module _ (b : ℕ) (lo : 0x3600_0000_0000_0000 ≤ b % 0x8000_0000_0000_0000) (h
   low_small = subst (λ (x : ℕ). x ≤ 16777216) (sym low-is) (low_le (K b) (S b - 1) (omega arith) (omega arith))
 
   settled : (bit_and (K b) (1 * 2 ^ S b % 18446744073709551616 - 1) ≡ 1 * 2 ^ (S b - 1) % 18446744073709551616 → ⊥)
-      → Narrowed b (Finite (of_bits binary32 (b / 0x8000_0000_0000_0000 * 0x8000_0000 + (K b + 1 * 2 ^ (S b - 1) % 18446744073709551616) / 2 ^ S b)))
+      → Narrowed b (Some (of_bits binary32 (b / 0x8000_0000_0000_0000 * 0x8000_0000 + (K b + 1 * 2 ^ (S b - 1) % 18446744073709551616) / 2 ^ S b)))
   settled m =
       let off : K b % (2 * 2 ^ (S b - 1)) ≡ 2 ^ (S b - 1) → ⊥ = λ e. m (mask_is (K b) (S b) (omega arith) ∙ ap (λ (x : ℕ). K b % x) (sym (unit_twice (S b) (omega arith))) ∙ e ∙ sym half_is) in
-      subst (λ (x : ℕ). Narrowed b (Finite (of_bits binary32 (b / 0x8000_0000_0000_0000 * 0x8000_0000 + x)))) (sym low-is) (lows b (K b) (S b - 1) (omega arith) (omega arith) (omega arith) (omega arith) off)
+      subst (λ (x : ℕ). Narrowed b (Some (of_bits binary32 (b / 0x8000_0000_0000_0000 * 0x8000_0000 + x)))) (sym low-is) (lows b (K b) (S b - 1) (omega arith) (omega arith) (omega arith) (omega arith) off)
 
 pub float_from_bits-result : goal.float_from_bits-result
 float_from_bits-result c = no_nan (c.args.bits / 0x8000_0000_0000_0000 * 0x8000_0000) (omega arith)
 
 pub returns-then-size-eq0 : goal.returns-then-size-eq0
 returns-then-size-eq0 c = let b = c.args.bits in let z : b % 0x8000_0000_0000_0000 ≡ 0 = omega arith in zeros b z
-
-pub returns-then-size-lt3891110078048108544 : goal.returns-then-size-lt3891110078048108544
-returns-then-size-lt3891110078048108544 c = none c.args.bits
-
-pub overflow_sub-s-then-size-le4039728865751334912 : goal.overflow_sub-s-then-size-le4039728865751334912
-overflow_sub-s-then-size-le4039728865751334912 c = unit-pos c.args.bits (omega arith) (omega arith)
-
-pub returns-then-q-s : goal.returns-then-q-s
-returns-then-q-s c = none c.args.bits
-
-pub overflow_add-low : goal.overflow_add-low
-overflow_add-low c = omega (arith, half_le c.args.bits (omega arith) (omega arith))
-
-pub overflow_add-result : goal.overflow_add-result
-overflow_add-result c = omega (arith, low_small c.args.bits (omega arith) (omega arith))
 
 pub overflow_cast-result-then-size-le4039728865751334912 : goal.overflow_cast-result-then-size-le4039728865751334912
 overflow_cast-result-then-size-le4039728865751334912 c = omega (arith, low_small c.args.bits (omega arith) (omega arith))
@@ -68,12 +47,6 @@ float_from_bits-result-then-size-le4039728865751334912 c =
 
 pub returns-then-size-le4039728865751334912 : goal.returns-then-size-le4039728865751334912
 returns-then-size-le4039728865751334912 c = settled c.args.bits (omega arith) (omega arith) (λ e. c.if-q-s.false (omega (arith, e)))
-
-pub returns-then-size-ge5183643170566569984 : goal.returns-then-size-ge5183643170566569984
-returns-then-size-ge5183643170566569984 c = none c.args.bits
-
-pub returns-then-size-eq268435456 : goal.returns-then-size-eq268435456
-returns-then-size-eq268435456 c = none c.args.bits
 
 pub float_from_bits-result-2 : goal.float_from_bits-result-2
 float_from_bits-result-2 c =

@@ -1,6 +1,6 @@
+use Rattle.std.specs.Prelude.{Some}
 use Rattle.std.proofs.Common.{ℕ, Bool, sym, ap, ◌∙◌, ap₂}
 use lib.Ieee.{Float}
-use Rattle.float.specs.declared.Rounded.TheVariants.{Finite}
 use Rattle.float.specs.Settled.{evened_of, settled_by, quick_of}
 use Rattle.float.proofs.Settling.{number, casts, wide_number, quick_fused}
 use Rattle.float.proofs.quick.quick_sum.Goals as goal
@@ -35,5 +35,5 @@ returns c =
     let x = c.evened.ensures ∙ ap₂ evened_of h l in
     let t = c.settles.ensures ∙ ap₂ (λ (x y : ℕ). settled_by x y c.exact.result) h l ∙ ap (settled_by _ _) c.exact.ensures in record {
       value = ap₂ {A = Float} {B = Bool} (λ (x : Float) (t : Bool). record { sum = x; settled = t }) x t;
-      sum_value = λ h. ap Finite x ∙ quick_fused a.a a.b a.c c.row_known-1.given c.row_known-2-1.given c.row_known-3-1.given c.requires (sym t ∙ h);
+      sum_value = λ h. ap Some x ∙ quick_fused a.a a.b a.c c.row_known-1.given c.row_known-2-1.given c.row_known-3-1.given c.requires (sym t ∙ h);
     }

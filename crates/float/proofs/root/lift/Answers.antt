@@ -46,20 +46,8 @@ lifted m z p h =
 two_up : (z : ℕ) → 40 ≤ z → 2 ≤ z
 two_up z h = omega arith
 
-fits-1 : (p z : ℕ) → p < 256 → z < 64 → p + (z - 2) < 4294967296
-fits-1 p z h g = omega arith
-
-fits-2 : (p z : ℕ) → z < 64 → z - 2 + (p + (z - 2)) % 2 < 4294967296
-fits-2 p z g = omega arith
-
 pub overflow_sub-up : goal.overflow_sub-up
 overflow_sub-up c = two_up (count_leading_zeros 64 c.args.m) (placed c.args.m c.requires.0 c.requires.1).0
-
-pub overflow_add-result : goal.overflow_add-result
-overflow_add-result c = record { fits = fits-1 c.args.place (count_leading_zeros 64 c.args.m) c.requires.2 (placed c.args.m c.requires.0 c.requires.1).1 }
-
-pub overflow_add-result-2 : goal.overflow_add-result-2
-overflow_add-result-2 c = record { fits = fits-2 c.args.place (count_leading_zeros 64 c.args.m) (placed c.args.m c.requires.0 c.requires.1).1 }
 
 pub returns : goal.returns
 returns c = lifted c.args.m (count_leading_zeros 64 c.args.m) c.args.place (placed c.args.m c.requires.0 c.requires.1)

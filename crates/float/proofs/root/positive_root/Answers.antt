@@ -1,8 +1,10 @@
-use Rattle.std.proofs.Common.{◌≡◌, ℕ, ◌+◌, ◌-◌, ◌*◌, ◌/◌, ◌%◌, ◌^◌, ◌<◌, ◌≤◌, false, sym, ap, ◌∙◌, le_trans, lt_of_lt_of_le, mod-eq_of_lt, mul_assoc, arith, lit<, lit≤, pow-add}
+use Rattle.std.proofs.Common.{◌≡◌, ℕ, subst, ap₂, ◌+◌, ◌-◌, ◌*◌, ◌/◌, ◌%◌, ◌^◌, ◌<◌, ◌≤◌, false, sym, ap, ◌∙◌, le_trans, lt_of_lt_of_le, mod-eq_of_lt, mul_assoc, arith, lit<, lit≤, pow-add}
 use lib.Ieee.{binary32, round}
 use Rattle.float.specs.Finite.{rounded}
 use Rattle.float.specs.Root.{twice_root}
-use Rattle.float.proofs.Places.{at_place, at_place_small}
+use Rattle.float.specs.Inside.{Q}
+use Rattle.float.proofs.Decode.{place_lt}
+use Rattle.float.proofs.Places.{at_place}
 use Rattle.float.proofs.Roots.{root_rounds}
 use Rattle.float.proofs.root.positive_root.Goals as goal
 
@@ -22,27 +24,19 @@ rounds m p u big l e =
     ∙ root_rounds (m * 2 ^ u) j (le_trans (lit≤ tt) big)
     ∙ ap (λ (x : ℕ). round binary32 false (twice_root (m * 2 ^ u) * 2 ^ x) (2 ^ 314)) (omega arith))
 
-loose : (w : ℕ) → w < 17179869184 → w < 9223372036854775808
-loose w h = omega arith
-
-pub magnitude_bits-requires : goal.magnitude_bits-requires
-magnitude_bits-requires c =
-    let u = c.lift-up.result in
-    let x = (c.args.place + 62 - u) / 2 + 207 in
-    let h : x < 1000 = half_lt c.args.place u c.requires.2 in (
-      loose c.sticky_root-w.result c.sticky_root-w.ensures.1,
-      at_place_small c.root_exponent.result x 314 h (lit< tt) c.root_exponent.ensures,
-    )
+small-place : (q b : ℕ) → q ≡ Q b → q < 256
+small-place q b e = subst (λ (p : ℕ). p < 256) (sym e) (place_lt b)
 
 pub returns : goal.returns
 returns c =
     let l = c.lift-up in
     let u = l.result in
-    let p = c.args.place in
-    let m = c.args.m in
+    let p = c.place-place.result in
+    let m = c.significand-m.result in
     let x = (p + 62 - u) / 2 + 207 in
     let k : m * 2 ^ u % 18446744073709551616 ≡ m * 2 ^ u = mod-eq_of_lt (lt_of_lt_of_le l.ensures.2 (lit≤ tt)) in
     c.pack.ensures
-    ∙ c.magnitude_bits.ensures false x (at_place c.root_exponent.result x 314 (half_lt p u c.requires.2) (lit< tt) c.root_exponent.ensures)
+    ∙ c.magnitude_bits.ensures false x (at_place c.root_exponent.result x 314 (half_lt p u (small-place p c.args.bits c.place-place.ensures)) (lit< tt) c.root_exponent.ensures)
     ∙ ap (λ (w : ℕ). rounded (round binary32 false (w * 2 ^ x) (2 ^ 314))) (c.sticky_root-w.ensures.0 ∙ ap twice_root k)
     ∙ ap rounded (rounds m p u l.ensures.1 l.ensures.4 l.ensures.3)
+    ∙ ap₂ (λ (m p : ℕ). rounded (round binary32 false (twice_root (m * 2 ^ (p + 150))) (2 ^ 151))) c.significand-m.ensures c.place-place.ensures

@@ -1,4 +1,4 @@
-use Rattle.std.proofs.Common.{◌≡◌, ℕ, ◌+◌, ◌*◌, ◌^◌, ◌<◌, sym, subst, lt_of_le_of_lt, le_of_lt, mul-le-mul_left, mul-lt-mul_of_pos_right, arith, pow_pos}
+use Rattle.std.proofs.Common.{◌≡◌, ℕ, ◌+◌, ◌*◌, ◌<◌, sym, subst, arith}
 use Rattle.float.specs.Root.{integer_root}
 use Rattle.float.proofs.Roots.{Root, integer_root_lem, twice_exact, twice_cut}
 use Rattle.float.proofs.root.sticky_root.Goals as goal
@@ -7,17 +7,11 @@ use Rattle.float.proofs.root.sticky_root.Goals as goal
 found : (n r : ℕ) → r ≡ integer_root n → Root n r
 found n r e = subst (λ (x : ℕ). Root n x) (sym e) (integer_root_lem n)
 
-square_lt : (r : ℕ) → r < 2 ^ 32 → r * r < 18446744073709551616
-square_lt r h = lt_of_le_of_lt (mul-le-mul_left r (le_of_lt h)) (mul-lt-mul_of_pos_right h (pow_pos 32))
-
 even-lt : (r : ℕ) → r < 4294967296 → 2 * r < 17179869184
 even-lt r h = omega arith
 
 odd_lt : (r : ℕ) → r < 4294967296 → 2 * r + 1 < 17179869184
 odd_lt r h = omega arith
-
-pub overflow_mul-r : goal.overflow_mul-r
-overflow_mul-r c = record { fits = square_lt c.integer_root-r.result c.integer_root-r.ensures.1 }
 
 pub returns-then-r-n : goal.returns-then-r-n
 returns-then-r-n c =

@@ -1,7 +1,7 @@
-use Rattle.std.proofs.Common.{◌≡◌, ℕ, ◌+◌, ◌<◌, ℤ, pos, ◌+ℤ◌, ◌-ℤ◌, sym, ap, ◌∙◌, subst, ap₂, arith, w32, SFits, to_z}
+use Rattle.std.proofs.Common.{◌≡◌, ℕ, ◌+◌, ◌<◌, ℤ, pos, ◌+ℤ◌, ◌-ℤ◌, sym, ap, ◌∙◌, subst, ap₂, arith, w32, to_z}
 use lib.IntN.{sub_ℕ}
 use lib.Signed.{mag}
-use Rattle.float.proofs.Places.{held, back', cast_in, wider, small, fits_less, held_less, fits_plus, held_plus, mag_less, mag_plus, sub_add, sub_sub, sub_same, at_zero}
+use Rattle.float.proofs.Places.{held, back', cast_in, wider, small, held_less, held_plus, mag_less, mag_plus, sub_add, sub_sub, sub_same, at_zero}
 use Rattle.float.proofs.rounding.dropped.Goals as goal
 
 small188 : mag (pos 188) < 10000
@@ -17,14 +17,8 @@ module _ (e : ℤ) (u : ℕ) (h : mag e < 1000) (g : u < 64) where
   args : held e -ℤ to_z w32 u ≡ e -ℤ pos u
   args = ap₂ (λ (x y : ℤ). x -ℤ y) (back' e (wider (mag e) 1000 h tt)) (cast_in u (small u 64 g tt))
 
-  ok : SFits w32 (held e -ℤ to_z w32 u)
-  ok = subst (λ (z : ℤ). SFits w32 z) (sym args) (fits_less e (pos u) (wider (mag e) 1000 h tt) (wider u 64 g tt))
-
   less : held (held e -ℤ to_z w32 u) ≡ e -ℤ pos u
   less = ap held args ∙ held_less e (pos u) (wider (mag e) 1000 h tt) (wider u 64 g tt)
-
-  ok-188 : SFits w32 (held (held e -ℤ to_z w32 u) +ℤ pos 188)
-  ok-188 = subst (λ (z : ℤ). SFits w32 (z +ℤ pos 188)) (sym less) (fits_plus (e -ℤ pos u) (pos 188) (wider (mag (e -ℤ pos u)) 1065 less-small tt) small188)
 
   plus : held (held (held e -ℤ to_z w32 u) +ℤ pos 188) ≡ e -ℤ pos u +ℤ pos 188
   plus = ap (λ (z : ℤ). held (z +ℤ pos 188)) less ∙ held_plus (e -ℤ pos u) (pos 188) (wider (mag (e -ℤ pos u)) 1065 less-small tt) small188
@@ -38,12 +32,6 @@ module _ (e : ℤ) (u : ℕ) (h : mag e < 1000) (g : u < 64) where
         ∙ sub_add (x + 0) (314 + u) 188 0
         ∙ sub_same (x + 0 + 188) (314 + u + 0) x (126 + u) (omega arith),
   )
-
-pub overflow_sub-result : goal.overflow_sub-result
-overflow_sub-result c = ok c.args.e c.args.up c.requires.0 c.requires.1
-
-pub overflow_add-result : goal.overflow_add-result
-overflow_add-result c = ok-188 c.args.e c.args.up c.requires.0 c.requires.1
 
 pub returns : goal.returns
 returns c = value c.args.e c.args.up c.requires.0 c.requires.1

@@ -7,7 +7,7 @@ use lib.Signed.{mag}
 use lib.Ieee.Fits.{nearest-le}
 use lib.Ieee.Nearest.{closest}
 use Rattle.float.specs.Inside.{pack_of}
-use Rattle.float.proofs.Places.{held, back', wider, place_held, place_small}
+use Rattle.float.proofs.Places.{held, back', wider, place_held}
 use Rattle.float.proofs.Round.{Placed, placed, zero_packs, word_packs}
 use Rattle.float.proofs.rounding.magnitude_bits.Goals as goal
 
@@ -23,12 +23,6 @@ one_up z u e = omega arith
 
 small-d : (d : ℤ) → mag d < 2000 → held d ≡ d
 small-d d h = back' d (wider (mag d) 2000 h tt)
-
-loose : (u : ℕ) → u < 63 → u < 64
-loose u h = omega arith
-
-loose64 : (u : ℕ) → u < 63 → u < 18446744073709551616
-loose64 u h = omega arith
 
 -- what is shifted stays in the rounded
 kept : (w u : ℕ) → w * 2 ^ u < 2 ^ 63 → w * 2 ^ u % 18446744073709551616 ≡ w * 2 ^ u
@@ -48,35 +42,12 @@ overflow_sub-up c =
     let w = c.args.w in
     one_up (count_leading_zeros 64 w) (count_leading_zeros 64 w - 1) (at_top w c.if-w-eq0.false c.requires.0).0
 
-pub dropped-d-requires : goal.dropped-d-requires
-dropped-d-requires c =
-    let w = c.args.w in (
-      place_small c.args.e c.requires.1,
-      loose (count_leading_zeros 64 w - 1) (at_top w c.if-w-eq0.false c.requires.0).1,
-    )
-
-pub overflow_cast-up : goal.overflow_cast-up
-overflow_cast-up c =
-    let w = c.args.w in
-    record { fits = loose64 (count_leading_zeros 64 w - 1) (at_top w c.if-w-eq0.false c.requires.0).1 }
-
-pub overflow_shl-w : goal.overflow_shl-w
-overflow_shl-w c =
-    let w = c.args.w in
-    loose (count_leading_zeros 64 w - 1) (at_top w c.if-w-eq0.false c.requires.0).1
-
-pub below-requires : goal.below-requires
-below-requires c = subst (λ (z : ℤ). mag z < 2000) (sym (small-d c.dropped-d.result c.dropped-d.ensures.0)) c.dropped-d.ensures.0
-
 pub nearest_shift-q-requires : goal.nearest_shift-q-requires
 nearest_shift-q-requires c =
     let w = c.args.w in
     let u = count_leading_zeros 64 w - 1 in
     let t : Placed w u = at_top w c.if-w-eq0.false c.requires.0 in
     ((omega arith), subst (λ (z : ℕ). z < 9223372036854775808) (sym (kept w u t.3)) t.3)
-
-pub above-requires : goal.above-requires
-above-requires c = omega (arith, (subst (λ (z : ℤ). mag z < 2000) (sym (small-d c.dropped-d.result c.dropped-d.ensures.0)) c.dropped-d.ensures.0))
 
 pub overflow_add-result : goal.overflow_add-result
 overflow_add-result c =

@@ -27,14 +27,5 @@ module _ (s : ℕ) (l : 1 ≤ s) (g : s ≤ 63) where
 pub returns-then-s-gt63 : goal.returns-then-s-gt63
 returns-then-s-gt63 c = sym (all-cut c.args.w c.args.s c.requires.1 c.if-s-gt63.true)
 
-pub overflow_sub-result : goal.overflow_sub-result
-overflow_sub-result c = omega (arith, half_pos c.args.s c.requires.0 c.if-s-gt63.false)
-
-pub overflow_add-result : goal.overflow_add-result
-overflow_add-result c = omega (arith, half_le c.args.s c.requires.0 c.if-s-gt63.false)
-
-pub overflow_add-result-2 : goal.overflow_add-result-2
-overflow_add-result-2 c = omega (arith, half_le c.args.s c.requires.0 c.if-s-gt63.false)
-
 pub returns : goal.returns
 returns c = rounds c.args.s c.requires.0 c.if-s-gt63.false c.args.w

@@ -1,7 +1,7 @@
-use Rattle.std.proofs.Common.{ℕ, ◌*◌, ◌^◌, ◌<◌, ◌≤◌, false, sym, refl, ap, ◌∙◌, subst, arith, lit<}
+use Rattle.std.proofs.Common.{ℕ, ◌*◌, ◌^◌, ◌≤◌, false, refl, ap, ◌∙◌, arith}
 use lib.Ieee.{binary32, round}
 use Rattle.float.specs.Finite.{rounded, or_zero}
-use Rattle.float.proofs.Counts.{count_is, count_jammed, jam_small}
+use Rattle.float.proofs.Counts.{count_is, count_jammed}
 use Rattle.float.proofs.whole.nearest.Goals as goal
 
 pub returns-then-n-lt9223372036854775808 : goal.returns-then-n-lt9223372036854775808
@@ -9,9 +9,6 @@ returns-then-n-lt9223372036854775808 c =
     c.or_zero.ensures
     ∙ ap or_zero (c.pack.ensures ∙ c.magnitude_bits.ensures false 314 refl)
     ∙ count_is c.args.n c.ranges.n.fits
-
-pub magnitude_bits-requires-2 : goal.magnitude_bits-requires-2
-magnitude_bits-requires-2 c = (subst (λ (w : ℕ). w < 9223372036854775808) (sym c.jam.ensures) (jam_small c.args.n c.ranges.n.fits), lit< tt)
 
 pub returns : goal.returns
 returns c =

@@ -3,4 +3,4 @@ use Rattle.vad_segments.proofs.closing.dropped.Goals as goal
 
 pub returns : goal.returns
 unfolding dropped_of
-returns c = simp (c.greater.ensures, c.lesser.ensures)
+returns c = simp (c.min.ensures, c.max.ensures)

@@ -4,4 +4,4 @@ use Rattle.vad_segments.proofs.closing.padded_end.Goals as goal
 
 pub returns : goal.returns
 unfolding padded_end
-returns c = simp (c.lesser.ensures, c.greater.ensures, add-one)
+returns c = simp (c.min.ensures, c.max.ensures, add-one)

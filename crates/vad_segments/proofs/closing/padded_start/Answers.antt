@@ -3,4 +3,4 @@ use Rattle.vad_segments.proofs.closing.padded_start.Goals as goal
 
 pub returns : goal.returns
 unfolding padded_start
-returns c = simp (c.greater.ensures, c.saturating_sub.ensures)
+returns c = simp (c.saturating_sub.ensures, c.max.ensures)

@@ -15,4 +15,4 @@ returns c =
     let s = c.args in
     let a = c.time_at in
     let b = c.time_at-2 in
-    timed_row s.config s.limit s.prev_end s.start s.end s.segment a.result b.result a.ensures b.ensures (omega arith) c.row_of-row.result c.row_of-row.ensures
+    timed_row s.config s.limit s.prev_end s.start s.end s.segment a.result b.result a.ensures b.ensures (omega arith) c.row_of.result c.row_of.ensures

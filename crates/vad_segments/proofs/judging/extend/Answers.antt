@@ -4,8 +4,8 @@ use Rattle.vad_segments.specs.Judging.{extended_by}
 use Rattle.score.proofs.Laws.{score_le}
 use Rattle.vad_segments.proofs.judging.extend.Goals as goal
 
-pub overflow_add-segment : goal.overflow_add-segment
-overflow_add-segment c = let most = score_le c.args.ratio in omega (arith, c.score.ensures)
+pub overflow_add-result : goal.overflow_add-result
+overflow_add-result c = let most = score_le c.args.ratio in omega (arith, c.score.ensures)
 
 pub returns : goal.returns
 unfolding extended_by

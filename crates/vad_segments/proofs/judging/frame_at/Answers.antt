@@ -3,4 +3,4 @@ use Rattle.vad_segments.proofs.judging.frame_at.Goals as goal
 
 pub returns : goal.returns
 unfolding frame_at
-returns c = simp c.lesser.ensures
+returns c = simp c.min.ensures

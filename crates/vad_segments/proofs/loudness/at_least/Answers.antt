@@ -5,6 +5,6 @@ pub returns-then-x-least : goal.returns-then-x-least
 unfolding at_least
 returns-then-x-least c = simp c.if-x-least.true
 
-pub returns : goal.returns
+pub returns-else-x-least : goal.returns-else-x-least
 unfolding at_least
-returns c = simp c.if-x-least.false
+returns-else-x-least c = simp c.if-x-least.false

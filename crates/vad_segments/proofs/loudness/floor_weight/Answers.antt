@@ -6,9 +6,9 @@ pub returns-then-floor-energy : goal.returns-then-floor-energy
 unfolding weight_of
 returns-then-floor-energy c = simp (c.if-speech.true, c.if-floor-energy.true)
 
-pub returns : goal.returns
+pub returns-else-speech : goal.returns-else-speech
 unfolding weight_of
-returns c = elim c.else-speech.branch [
+returns-else-speech c = elim c.else-speech.branch [
   | else-speech-via-then-speech+else-floor-energy w ↦ simp (w.if-speech.true, w.if-floor-energy.false)
   | else-speech-via-else-speech w ↦ simp w.if-speech.false
 ]

@@ -5,6 +5,6 @@ pub returns-then-energy-m : goal.returns-then-energy-m
 unfolding lesser_of
 returns-then-energy-m c = simp c.if-energy-m.true
 
-pub returns : goal.returns
+pub returns-else-energy-m : goal.returns-else-energy-m
 unfolding lesser_of
-returns c = simp c.if-energy-m.false
+returns-else-energy-m c = simp c.if-energy-m.false

@@ -1,10 +1,12 @@
+use Rattle.std.proofs.Common.{arith}
+use Rattle.std.proofs.lemmas.Grind.{common_steps}
 use Rattle.vad_segments.specs.Loudness.{required_of}
 use Rattle.vad_segments.proofs.loudness.required_ratio.Goals as goal
 
-pub returns-in-Closed : goal.returns-in-Closed
+pub returns-then-is_some : goal.returns-then-is_some
 unfolding required_of
-returns-in-Closed c = simp c.in-Closed.is
+returns-then-is_some c = grind (arith, common_steps)
 
-pub returns-in-Open : goal.returns-in-Open
+pub returns-else-is_some : goal.returns-else-is_some
 unfolding required_of
-returns-in-Open c = simp c.in-Open.is
+returns-else-is_some c = grind (arith, common_steps)

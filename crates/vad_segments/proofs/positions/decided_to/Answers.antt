@@ -3,4 +3,4 @@ use Rattle.vad_segments.proofs.positions.decided_to.Goals as goal
 
 pub returns : goal.returns
 unfolding decided_to
-returns c = simp (c.greater.ensures, c.lesser.ensures, c.saturating_sub.ensures)
+returns c = simp (c.saturating_sub.ensures, c.min.ensures, c.max.ensures)

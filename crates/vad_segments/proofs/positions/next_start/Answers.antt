@@ -1,10 +1,8 @@
+use Rattle.std.proofs.Common.{arith}
+use Rattle.std.proofs.lemmas.Grind.{common_steps}
 use Rattle.vad_segments.specs.Positions.{next_of}
 use Rattle.vad_segments.proofs.positions.next_start.Goals as goal
 
-pub returns-in-Closed : goal.returns-in-Closed
+pub returns : goal.returns
 unfolding next_of
-returns-in-Closed c = simp c.in-Closed.is
-
-pub returns-in-Open : goal.returns-in-Open
-unfolding next_of
-returns-in-Open c = simp (c.in-Open.is, c.lesser.ensures)
+returns c = grind (arith, common_steps)

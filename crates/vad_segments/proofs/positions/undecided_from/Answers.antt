@@ -9,4 +9,4 @@ returns-then-warming c = let held : c.args.warming ≡ true = c.if-warming.true 
 
 pub returns : goal.returns
 unfolding undecided_of
-returns c = let begun : c.args.warming ≡ false = c.if-warming.false in simp (begun, c.decided_to.ensures, c.next_start.ensures)
+returns c = let begun : c.args.warming ≡ false = c.if-warming.false in simp (begun, c.decided_to.ensures, c.next_start-next.ensures)

@@ -1,7 +1,6 @@
 use mathlib.Core.Path.{◌∙◌}
-use Rattle.ranges.specs.Sizes.{frame_most}
 use Rattle.vad_state.proofs.Fills.{put_filled}
 use Rattle.vad_state.proofs.arrays.filled.Goals as goal
 
 pub returns : goal.returns
-returns c = c.put.ensures ∙ put_filled frame_most c.args.numbers.now c.requires
+returns g c = c.put.ensures ∙ put_filled _ c.args.numbers.now c.requires

@@ -1,9 +1,0 @@
-use mathlib.Core.Path.{◌≡◌}
-use mathlib.Core.Bool.{true, false}
-use Rattle.vad_call.proofs.held_after.Goals as goal
-
-pub returns-then-holds : goal.returns-then-holds
-returns-then-holds c = let on : c.args.holds ≡ true = c.if-holds.true in simp on
-
-pub returns : goal.returns
-returns c = let off : c.args.holds ≡ false = c.if-holds.false in simp off

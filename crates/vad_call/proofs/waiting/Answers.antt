@@ -1,9 +1,0 @@
-use mathlib.Core.Path.{◌≡◌}
-use mathlib.Core.Bool.{true, false}
-use Rattle.vad_call.proofs.waiting.Goals as goal
-
-pub returns-then-kept : goal.returns-then-kept
-returns-then-kept c = let on : c.args.kept.desk.warming ≡ true = c.if-kept.true in simp on
-
-pub returns : goal.returns
-returns c = let off : c.args.kept.desk.warming ≡ false = c.if-kept.false in simp off

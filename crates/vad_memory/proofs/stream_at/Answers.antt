@@ -1,7 +1,0 @@
-use mathlib.Core.Path.{refl}
-use Rattle.vad_memory.specs.DetectorState.{stream_at}
-use Rattle.vad_memory.proofs.stream_at.Goals as goal
-
-pub returns : goal.returns
-unfolding stream_at
-returns c = refl
