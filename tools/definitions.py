@@ -16,7 +16,7 @@ PRELUDE = {"Unit", "tt", "⊥", "absurd", "¬", "Dec", "yes", "no"}  # open in e
 HELD = {"now", "old", "new"}  # what a contract reads of a reference
 
 
-# std's own, which every file knows
+# std's own, which every file knows; one letter is a parameter
 STD = {"Option", "Result"}
 
 
@@ -176,8 +176,8 @@ class Source:
             body = [re.match(r"(?:pub )?(\w+)(.*)", one, re.S) for one in split(text[found.end() : end], ",") if one]
             lines = numbers(raw, found.start(), end)
             self.items[found[2]] = Item(found[2], found[1], self, lines, " ".join(one[2] for one in body), [one[1] for one in body])
-        for found in re.finditer(r"^(?:pub )?const (\w+): (.*?);$", text, re.M | re.S):
-            self.items[found[1]] = Item(found[1], "const", self, numbers(raw, found.start(), found.end()), found[2], [])
+        for found in re.finditer(r"^(?:pub )?(const|type) (\w+)(?::| =) (.*?);$", text, re.M | re.S):
+            self.items[found[2]] = Item(found[2], found[1], self, numbers(raw, found.start(), found.end()), found[3], [])
 
     def find(self, name):
         first, dot, _ = name.partition(".")
@@ -186,7 +186,7 @@ class Source:
     def types(self, text):
         """The structs and enums that a text of types names, and the constants that an array's length is."""
         for path in re.findall(r"(?:\w+::)*\b[A-Z]\w*", text):
-            if path in STD:
+            if path in STD or len(path) == 1:
                 continue
             *owner, name = self.uses.get(path, path).split("::")
             places = (tuple(owner), (*self.here, *owner))
@@ -368,7 +368,7 @@ class Reader:
 def cited_by(item):
     """What an item cites."""
     reader = Reader(item.place)
-    if item.kind in ("struct", "enum", "const"):
+    if item.kind in ("struct", "enum", "const", "type"):
         for found in item.place.types(item.text):
             reader.cite(found)
         return reader

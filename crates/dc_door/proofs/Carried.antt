@@ -28,8 +28,7 @@ use Rattle.dc_state.specs.declared.PreprocessingConfig.{PreprocessingConfig}
 use Rattle.dc_state.specs.declared.DcHighPassFilter.{DcHighPassFilter}
 use Rattle.dc_highpass.specs.Filter.{Passed, coefficients_of, still, fresh_of, nothing_open, open_of, is_empty, listens, bias_of, biased_of, staged_by, pass_of, after_of, check_of, stop_of, ran_of, process_of, reset_of}
 use Rattle.dc_highpass.specs.declared.VadContext.{VadContext}
-use Rattle.dc_highpass.specs.declared.Opened.{Opened}
-use Rattle.dc_highpass.specs.declared.Processed.{Processed}
+use Rattle.dc_highpass.specs.declared.Answered.{Answered}
 use Rattle.dc_highpass.proofs.Calls.{either_way}
 use Rattle.dc_door.specs.FilterState.{filter_at, readable, written}
 use Rattle.dc_door.specs.FilterDoor.{five_at, opened_of, open_state, process_state, reset_state}
@@ -98,7 +97,7 @@ module _ (f : DcHighPassFilter) (h : FilterFits f) (xs : List Float) (k : T (all
   process_fits : FilterFits (process_of f xs label room).filter
   unfolding process_of
   process_fits =
-      either_way (λ (p : Processed). FilterFits p.filter) (check_of f xs room) (ran_of f (biased_of f xs label) xs) (λ r. record { outcome = Err r; filter = f })
+      either_way (λ (p : Answered). FilterFits p.filter) (check_of f xs room) (ran_of f (biased_of f xs label) xs) (λ r. record { outcome = Err r; filter = f })
       (ran_fits (biased_of f xs label) (biased_fits f xs label h))
       (λ r. h)
 
@@ -119,7 +118,7 @@ fresh_fits f h =
 reset_fits : (f : DcHighPassFilter) → FilterFits f → FilterFits (reset_of f).filter
 unfolding reset_of
 reset_fits f h =
-    either (λ (p : Opened). FilterFits p.filter) (sound_of f) (record { outcome = Ok tt; filter = fresh_of f.config f.first.coeffs f.second.coeffs }) (record { outcome = Err why.FilterState; filter = f }) (fresh_fits f h) h
+    either (λ (p : Answered). FilterFits p.filter) (sound_of f) (record { outcome = Ok tt; filter = fresh_of f.config f.first.coeffs f.second.coeffs }) (record { outcome = Err why.FilterState; filter = f }) (fresh_fits f h) h
 
 -- ---- an opened filter's numbers, from the settings and the coefficients
 
@@ -168,7 +167,7 @@ module _ (c : PreprocessingConfig) (l : Fit c.highpass_cutoff_hz) (m : Fit c.dc_
 
   opened_fits : FilterFits (opened_of c xs).filter
   unfolding opened_of
-  opened_fits = either (λ (p : Opened). FilterFits p.filter) (ltb (length xs) 10) (record { outcome = Err why.FilterCoefficient; filter = nothing_open }) (open_of c (five_at xs 0 ∷ five_at xs 5 ∷ [])) none_fits open_fits
+  opened_fits = either (λ (p : Answered). FilterFits p.filter) (ltb (length xs) 10) (record { outcome = Err why.FilterCoefficient; filter = nothing_open }) (open_of c (five_at xs 0 ∷ five_at xs 5 ∷ [])) none_fits open_fits
 
   -- ---- through the door
 

@@ -21,8 +21,7 @@ use Rattle.dc_state.specs.declared.PreprocessingConfig.{PreprocessingConfig}
 use Rattle.dc_state.specs.declared.DcHighPassFilter.{DcHighPassFilter}
 use Rattle.dc_highpass.specs.Filter.{fresh_of, nothing_open, check_of, process_of, output_after, reset_of, bias_read}
 use Rattle.dc_highpass.specs.declared.VadContext.{VadContext}
-use Rattle.dc_highpass.specs.declared.Opened.{Opened}
-use Rattle.dc_highpass.specs.declared.Processed.{Processed}
+use Rattle.dc_highpass.specs.declared.Answered.{Answered}
 use Rattle.dc_highpass.proofs.Runs.{nothing_malformed}
 use Rattle.dc_door.proofs.Places.{place_small}
 use Rattle.dc_door.specs.FilterState.{filter_at, readable, written, word_of}
@@ -49,7 +48,7 @@ packed_zero n = sym (packed_none n)
 -- a reset carries nothing
 no_place : (f : DcHighPassFilter) → carries_in (reset_of f).outcome ≡ 0
 unfolding reset_of
-no_place f = either (λ (q : Opened). carries_in q.outcome ≡ 0) (sound_of f) (record { outcome = Ok tt; filter = fresh_of f.config f.first.coeffs f.second.coeffs }) (record { outcome = Err why.FilterState; filter = f }) refl refl
+no_place f = either (λ (q : Answered). carries_in q.outcome ≡ 0) (sound_of f) (record { outcome = Ok tt; filter = fresh_of f.config f.first.coeffs f.second.coeffs }) (record { outcome = Err why.FilterState; filter = f }) refl refl
 
 -- ---- opening
 
@@ -99,13 +98,13 @@ module _ (ws : List ℕ) where
   unfolding bias_read
   unread_bias = rw nothing_malformed
 
-  module _ (o : Opened) (e : o ≡ reset_of (read_of ws)) where
+  module _ (o : Answered) (e : o ≡ reset_of (read_of ws)) where
     reset_by : (t : Bool) → readable ws ≡ t → o ≡ cond t (reset_of (filter_at ws)) (record { outcome = Err why.FilterState; filter = nothing_open })
     reset_by true h = e ∙ ap reset_of (sym (read_good h))
     reset_by false h = e ∙ ap reset_of (sym (read_bad h)) ∙ unread_reset
 
     pub reset_carries : carries_in o.outcome ≡ 0
-    reset_carries = ap (λ (q : Opened). carries_in q.outcome) e ∙ no_place (read_of ws)
+    reset_carries = ap (λ (q : Answered). carries_in q.outcome) e ∙ no_place (read_of ws)
 
     module _ (a : ℕ) (q : a ≡ packed (number_in o.outcome) (carries_in o.outcome)) (new : List ℕ) (w : new ≡ cond (is_ok o.outcome && leb 25 (length ws)) (written o.filter ws) ws) where
       reset_kept_by : (t : Bool) → readable ws ≡ t → (a ≡ reset_answer ws) × (new ≡ reset_state ws)
@@ -144,13 +143,13 @@ module _ (ws : List ℕ) (xs : List Float) (label : Option VadContext) where
   pub output_read : (out new : List Float) → new ≡ output_after (read_of ws) xs label out → new ≡ process_output ws xs label out
   output_read out new e = e ∙ output_by out (readable ws) refl
 
-  module _ (room : ℕ) (p : Processed) (e : p ≡ process_of (read_of ws) xs label room) where
+  module _ (room : ℕ) (p : Answered) (e : p ≡ process_of (read_of ws) xs label room) where
     block_by : (t : Bool) → readable ws ≡ t → p ≡ cond t (process_of (filter_at ws) xs label room) (record { outcome = Err why.FilterState; filter = nothing_open })
     block_by true h = e ∙ ap (λ (f : DcHighPassFilter). process_of f xs label room) (sym (read_good ws h))
     block_by false h = e ∙ ap (λ (f : DcHighPassFilter). process_of f xs label room) (sym (read_bad ws h)) ∙ unread_block xs label room
 
     pub place_fits : carries_in p.outcome < 2 ^ 55
-    place_fits = let n = ap (λ (q : Processed). carries_in q.outcome) e in let small = place_small (read_of ws) xs label room in omega arith
+    place_fits = let n = ap (λ (q : Answered). carries_in q.outcome) e in let small = place_small (read_of ws) xs label room in omega arith
 
     module _ (a : ℕ) (q : a ≡ packed (number_in p.outcome) (carries_in p.outcome)) (new : List ℕ) (w : new ≡ cond (is_ok p.outcome && leb 25 (length ws)) (written p.filter ws) ws) where
       process_by : (t : Bool) → readable ws ≡ t → (a ≡ process_answer ws xs label room) × (new ≡ process_state ws xs label room)

@@ -10,7 +10,7 @@ use Rattle.dc_state.specs.declared.PreprocessingConfig.{PreprocessingConfig}
 use Rattle.dc_highpass.specs.Filter.{open_of, nothing_open, process_of, output_after, reset_of, bias_read}
 use Rattle.dc_highpass.specs.declared.VadContext.{VadContext}
 use Rattle.dc_highpass.specs.declared.VadContext.TheVariants.{Silence, Speech}
-use Rattle.dc_highpass.specs.declared.Opened.{Opened}
+use Rattle.dc_highpass.specs.declared.Answered.{Answered}
 use Rattle.dc_door.specs.FilterState.{filter_at, readable, written, order_of, word_of}
 
 -- ---- opening
@@ -30,7 +30,7 @@ abbrev pub five_at : List Float → ℕ → List Float
 five_at xs i = get_or xs i nan ∷ get_or xs (i + 1) nan ∷ get_or xs (i + 2) nan ∷ get_or xs (i + 3) nan ∷ get_or xs (i + 4) nan ∷ []
 
 -- ten numbers, five a stage; too few of them are refused as coefficients are
-unfoldable pub opened_of : PreprocessingConfig → List Float → Opened
+unfoldable pub opened_of : PreprocessingConfig → List Float → Answered
 opened_of c xs = cond (ltb (length xs) 10) (record { outcome = Err why.FilterCoefficient; filter = nothing_open }) (open_of c (five_at xs 0 ∷ five_at xs 5 ∷ []))
 
 unfoldable pub open_answer : PreprocessingConfig → List Float → List ℕ → ℕ

@@ -10,7 +10,7 @@ ghost use Rattle.dc_door.specs.FilterState.{stage_at, words_of, written};
 ghost use Rattle.dc_door.specs.FilterDoor.{settings_of, opened_of, open_answer, open_state, label_of, process_answer, process_state, process_output, reset_answer, reset_state, bias_answer};
 ghost use Rattle.dc_door.specs.Inside.{flag_read, config_read, held_in, read_of, stages_read};
 
-use dc_highpass::{Opened, VadContext};
+use dc_highpass::{Answered, VadContext};
 use dc_state::biquad::{Biquad, BiquadCoefficients, BiquadState};
 use dc_state::{DcHighPassFilter, HighpassOrder, PreprocessingConfig};
 use float::{from_bits, to_bits};
@@ -187,12 +187,12 @@ fn stages(numbers: &[f32]) -> Option<[[f32; 5]; 2]>
 
 // A slice that is too short has no coefficients to read: refused as they would be.
 #[tactic(auto, unfolding(crate::specs::FilterDoor::opened_of, crate::specs::Inside::stages_read))]
-fn opened(config: PreprocessingConfig, coefficients: &[f32]) -> Opened
+fn opened(config: PreprocessingConfig, coefficients: &[f32]) -> Answered
     ensures { result ≡ opened_of config coefficients.now }
 {
     match stages(coefficients) {
         Some(stages) => dc_highpass::open(config, stages),
-        None => Opened {
+        None => Answered {
             outcome: Err(Refusal::FilterCoefficient),
             filter: dc_highpass::nothing_open(),
         },
@@ -207,7 +207,7 @@ pub fn open(config: PreprocessingConfig, coefficients: &[f32], state: &mut [u32]
     ensures state_left { state.new ≡ open_state config coefficients.now state.old }
 {
     let Some(words) = state.first_chunk_mut::<WORDS>() else {
-        return 27;
+        return Refusal::FilterState.number() as u64;
     };
     let done = opened(config, coefficients);
     *words = words_of(done.filter);

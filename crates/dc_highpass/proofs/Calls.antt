@@ -21,7 +21,7 @@ use Rattle.dc_state.specs.Settings.{sound_of}
 use Rattle.dc_state.specs.declared.DcHighPassFilter.{DcHighPassFilter}
 use Rattle.dc_highpass.specs.Filter.{biased_of, pass_of, results_of, after_of, check_of, stop_of, ran_of, process_of, written_of, output_after}
 use Rattle.dc_highpass.specs.declared.VadContext.{VadContext}
-use Rattle.dc_highpass.specs.declared.Processed.{Processed}
+use Rattle.dc_highpass.specs.declared.Answered.{Answered}
 use Rattle.lists.proofs.Stores.{sets_append, sets_all}
 
 -- what holds of both ways on from a check, holds of the one that is taken
@@ -93,7 +93,7 @@ module _ (f : DcHighPassFilter) (xs : List Float) (label : Option VadContext) (r
   unfolding process_of
   answer_refused r e = rw e
 
-  pub answer_ran : check_of f xs room ≡ Ok tt → (g : DcHighPassFilter) → g ≡ biased_of f xs label → (p : Processed) → p ≡ ran_of f g xs → p ≡ process_of f xs label room
+  pub answer_ran : check_of f xs room ≡ Ok tt → (g : DcHighPassFilter) → g ≡ biased_of f xs label → (p : Answered) → p ≡ ran_of f g xs → p ≡ process_of f xs label room
   unfolding process_of
   answer_ran e g b p h = h ∙ rw (e, b)
 

@@ -29,8 +29,7 @@ use Rattle.dc_highpass.specs.Filter.{coefficients_of, fresh_of, nothing_open, op
 use Rattle.dc_highpass.proofs.Calls.{either_way}
 use Rattle.dc_highpass.specs.Run.{Call, Block, Reset, next, number_of, play}
 use Rattle.dc_highpass.specs.declared.VadContext.{VadContext}
-use Rattle.dc_highpass.specs.declared.Processed.{Processed}
-use Rattle.dc_highpass.specs.declared.Opened.{Opened}
+use Rattle.dc_highpass.specs.declared.Answered.{Answered}
 
 -- ---- one sample
 staged_sound : (o : HighpassOrder) (f : DcHighPassFilter) (c : Float) → Parts f → finite (staged_by o f c).output ≡ true → Parts (staged_by o f c).filter
@@ -120,7 +119,7 @@ ran_sound f xs label p = go (ltb (length (results_of (biased_of f xs label) xs))
 process_sound : (f : DcHighPassFilter) (xs : List Float) (label : Option VadContext) (room : ℕ) → Parts f → Parts (process_of f xs label room).filter
 unfolding process_of
 process_sound f xs label room p =
-    either_way (λ (q : Processed). Parts q.filter) (check_of f xs room) (ran_of f (biased_of f xs label) xs) (λ r. record { outcome = Err r; filter = f })
+    either_way (λ (q : Answered). Parts q.filter) (check_of f xs room) (ran_of f (biased_of f xs label) xs) (λ r. record { outcome = Err r; filter = f })
     (ran_sound f xs label p)
     (λ r. p)
 
@@ -128,7 +127,7 @@ fresh_sound : (c : PreprocessingConfig) (first second : BiquadCoefficients) → 
 unfolding fresh_of remembers_finite of_bits
 fresh_sound c first second z = record { settings = eq-eqb _ _ z; bias = refl; first = refl; second = refl }
 
-reset_sound : (t : Bool) (f g : DcHighPassFilter) → t ≡ true → sound_of f ≡ true → sound_of (cond {A = Opened} t (record { outcome = Ok tt; filter = f }) (record { outcome = Err why.FilterState; filter = g })).filter ≡ true
+reset_sound : (t : Bool) (f g : DcHighPassFilter) → t ≡ true → sound_of f ≡ true → sound_of (cond {A = Answered} t (record { outcome = Ok tt; filter = f }) (record { outcome = Err why.FilterState; filter = g })).filter ≡ true
 reset_sound true f g h k = k
 reset_sound false f g h k = absurd (true≢false (sym h))
 
@@ -157,7 +156,7 @@ stop_taken : (f : DcHighPassFilter) (xs : List Float) → number_in (stop_of f x
 unfolding stop_of
 stop_taken f xs = never 27 _ refl (λ z. omega arith)
 
-reset_taken : (t : Bool) (f g : DcHighPassFilter) → t ≡ true → number_in (cond {A = Opened} t (record { outcome = Ok tt; filter = f }) (record { outcome = Err why.FilterState; filter = g })).outcome ≡ 27 → ⊥
+reset_taken : (t : Bool) (f g : DcHighPassFilter) → t ≡ true → number_in (cond {A = Answered} t (record { outcome = Ok tt; filter = f }) (record { outcome = Err why.FilterState; filter = g })).outcome ≡ 27 → ⊥
 reset_taken true f g h e = absurd (omega arith)
 reset_taken false f g h e = absurd (true≢false (sym h))
 

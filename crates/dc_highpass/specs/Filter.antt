@@ -23,8 +23,7 @@ use Rattle.dc_state.specs.declared.PreprocessingConfig.{PreprocessingConfig}
 use Rattle.dc_state.specs.declared.DcHighPassFilter.{DcHighPassFilter}
 use Rattle.dc_highpass.specs.declared.VadContext.{VadContext}
 use Rattle.dc_highpass.specs.declared.VadContext.TheVariants.{Silence, Speech}
-use Rattle.dc_highpass.specs.declared.Opened.{Opened}
-use Rattle.dc_highpass.specs.declared.Processed.{Processed}
+use Rattle.dc_highpass.specs.declared.Answered.{Answered}
 
 -- ---- opening
 
@@ -52,7 +51,7 @@ nothing_open =
     record { b0 = zero32; b1 = zero32; b2 = zero32; a1 = zero32; a2 = zero32 }
 
 -- 'filter opening 20 to 24'
-unfoldable pub open_of : PreprocessingConfig → List (List Float) → Opened
+unfoldable pub open_of : PreprocessingConfig → List (List Float) → Answered
 open_of c a =
     let first = coefficients_of (get_or a 0 []) in
     let second = coefficients_of (get_or a 1 []) in
@@ -138,10 +137,10 @@ unfoldable pub stop_of : DcHighPassFilter → List Float → Result ⊤ Refusal
 stop_of f xs = first_of (refusing (why.FilterOverflow (length (results_of f xs))) (ltb (length (results_of f xs)) (length xs)) ∷ [])
 
 -- after it 'the filter state, bias included, is the one given'
-unfoldable pub ran_of : DcHighPassFilter → DcHighPassFilter → List Float → Processed
+unfoldable pub ran_of : DcHighPassFilter → DcHighPassFilter → List Float → Answered
 ran_of given f xs = let v = stop_of f xs in record { outcome = v; filter = if_passed v (after_of f xs) (λ r. given) }
 
-unfoldable pub process_of : DcHighPassFilter → List Float → Option VadContext → ℕ → Processed
+unfoldable pub process_of : DcHighPassFilter → List Float → Option VadContext → ℕ → Answered
 process_of f xs label room =
     if_passed (check_of f xs room) (ran_of f (biased_of f xs label) xs) (λ r. record { outcome = Err r; filter = f })
 
@@ -154,7 +153,7 @@ output_after f xs label out = if_passed (check_of f xs (length out)) (written_of
 
 -- ---- reset, and the bias read
 
-unfoldable pub reset_of : DcHighPassFilter → Opened
+unfoldable pub reset_of : DcHighPassFilter → Answered
 reset_of f =
     cond (sound_of f) (record { outcome = Ok tt; filter = fresh_of f.config f.first.coeffs f.second.coeffs }) (record { outcome = Err why.FilterState; filter = f })
 

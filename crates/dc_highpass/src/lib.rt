@@ -21,16 +21,9 @@ pub enum VadContext {
     Speech,
 }
 
-// What opening and reset answer, and the state.
+// What opening, a block's call and reset answer: the state is a new one only where nothing was refused.
 #[derive(Clone, Copy)]
-pub struct Opened {
-    pub outcome: Result<(), Refusal>,
-    pub filter: DcHighPassFilter,
-}
-
-// What a block's call answers: the state is a new one only where nothing was refused.
-#[derive(Clone, Copy)]
-pub struct Processed {
+pub struct Answered {
     pub outcome: Result<(), Refusal>,
     pub filter: DcHighPassFilter,
 }
@@ -84,7 +77,7 @@ pub fn nothing_open() -> DcHighPassFilter
 
 // Opens a filter with the coefficients of its two stages, each b0, b1, b2, a1, a2, worked out by the host; second order never reads the second stage's.
 #[tactic(auto, unfolding(crate::specs::Filter::open_of))]
-pub fn open(config: PreprocessingConfig, stages: [[f32; 5]; 2]) -> Opened
+pub fn open(config: PreprocessingConfig, stages: [[f32; 5]; 2]) -> Answered
     ensures { result ≡ open_of config stages }
 {
     let [one, two] = stages;
@@ -95,24 +88,24 @@ pub fn open(config: PreprocessingConfig, stages: [[f32; 5]; 2]) -> Opened
         Ok(()) => fresh(config, first, second),
         Err(_) => nothing_open(),
     };
-    Opened { outcome, filter }
+    Answered { outcome, filter }
 }
 
 // Clears what the filter remembers, before a new stream.
 #[tactic(auto, unfolding(crate::specs::Filter::reset_of))]
-pub fn reset(mut filter: DcHighPassFilter) -> Opened
+pub fn reset(mut filter: DcHighPassFilter) -> Answered
     ensures { result ≡ reset_of filter }
 {
     if sound(filter) {
         let first = filter.first;
         let second = filter.second;
         filter = fresh(filter.config, first.coeffs, second.coeffs);
-        return Opened {
+        return Answered {
             outcome: Ok(()),
             filter,
         };
     }
-    Opened {
+    Answered {
         outcome: Err(Refusal::FilterState),
         filter,
     }
@@ -229,7 +222,7 @@ fn run(
     mut filter: DcHighPassFilter,
     samples: &[f32],
     output: &mut [f32],
-) -> Processed
+) -> Answered
     requires { length samples.now ≤ length output.old }
     ensures value { result ≡ ran_of given filter samples.now }
     ensures output_left { output.new ≡ written_of (results_of filter samples.now) (length samples.now) output.old }
@@ -238,14 +231,14 @@ fn run(
         let result = pass(&mut filter, *sample);
         if !result.is_finite() {
             clear(output, i, samples.len());
-            return Processed {
+            return Answered {
                 outcome: Err(Refusal::FilterOverflow(i)),
                 filter: given,
             };
         }
         output[i] = result;
     }
-    Processed {
+    Answered {
         outcome: Ok(()),
         filter,
     }
@@ -258,12 +251,12 @@ pub fn process(
     samples: &[f32],
     context: Option<VadContext>,
     output: &mut [f32],
-) -> Processed
+) -> Answered
     ensures value { result ≡ process_of filter samples.now context (length output.old) }
     ensures output_left { output.new ≡ output_after filter samples.now context output.old }
 {
     match check(filter, samples, output.len()) {
-        Err(by) => Processed {
+        Err(by) => Answered {
             outcome: Err(by),
             filter,
         },

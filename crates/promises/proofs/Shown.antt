@@ -13,7 +13,7 @@ use Rattle.score.specs.Score.{score_of, reaches, largest}
 use Rattle.ranges.specs.Ranges.{rate_in, leading_of, all_within, in_domain, clean_of}
 use Rattle.std.specs.Prelude.{Ok}
 use Rattle.refusals.specs.Refusals.{first_of, number_in}
-use Rattle.vad_detector.specs.declared.Opened.{Opened}
+use Rattle.vad_detector.specs.Answers.{Opened}
 use Rattle.vad_config.specs.Domain.{in_unit, duration_in, start_in, received_in}
 use Rattle.vad_config.specs.Lengths.{frame_samples, frame_length_of, hop_length_of, warmup_frames_of, seconds_of, padding_samples_of, time_of, time_of_sample_of}
 use Rattle.vad_config.specs.Settings.{frame_of, hop_of, warmup_of, padding_of, lengths_of, framing_refusals, level_refusals, limit_refusals, refusal_of, outcome_of}

@@ -24,10 +24,10 @@ use Rattle.vad_row.proofs.Laws.{flat_length}
 use Rattle.vad_state.specs.State.{half32, weights_in}
 use Rattle.vad_state.specs.declared.VadDetector.{VadDetector}
 use Rattle.vad_call.specs.Calls.{too_many, concluded_of, ran_of}
-use Rattle.vad_call.specs.declared.Detected.{Detected}
+use Rattle.vad_call.specs.Answers.{Detected}
 use Rattle.vad_detector.specs.Opening.{weights_fit, open_refusal, open_of, open_verdict}
 use Rattle.vad_detector.specs.Entries.{detect_of, flush_of, flush_rows}
-use Rattle.vad_detector.specs.declared.Opened.{Opened}
+use Rattle.vad_detector.specs.Answers.{Opened}
 use Rattle.vad_runs.specs.Detector.{config, window, a, b}
 use Rattle.vad_runs.proofs.Detector.{lent, Run, run_a, run_b}
 use Rattle.promises.specs.Log.{Seen, Turn, Detect, Flush, is_flush, block_of, answer_of, seen_as, seen_of, log_of}

@@ -24,7 +24,7 @@ use Rattle.vad_segments.proofs.Counts.{Recent, recent_call, louds_length}
 use Rattle.vad_segments.proofs.Undecided.{undecided_rows, undecided_mono}
 use Rattle.vad_state.specs.declared.VadDetector.{VadDetector}
 use Rattle.vad_call.specs.Calls.{measured_of, carry_after, stream_after, holding_with, holding_of, held_after, due_of, seeded_of, frames_due, verdict_of, rows_due, rows_of_call, desk_after, joined_of, advanced_of, tally_of, no_tally, refused_by, accepted_of, too_many, concluded_of, ran_of}
-use Rattle.vad_call.specs.declared.Detected.{Detected}
+use Rattle.vad_call.specs.Answers.{Detected}
 use Rattle.vad_call.specs.Checks.{check_of}
 use Rattle.vad_detector.specs.Entries.{detect_of, flush_of}
 use Rattle.std.specs.Prelude.{Result, Ok, Err, ⊤, is_some}

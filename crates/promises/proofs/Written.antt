@@ -14,7 +14,7 @@ use Rattle.vad_row.proofs.Laws.{flat_length, room_enough}
 use Rattle.vad_state.specs.State.{sound_of}
 use Rattle.vad_state.specs.declared.VadDetector.{VadDetector}
 use Rattle.vad_call.specs.Calls.{stream_after, tally_of, no_tally, tally_in, refused_by, accepted_of, too_many, concluded_of, reported_in, ran_of, rows_of_call, written_of}
-use Rattle.vad_call.specs.declared.Detected.{Detected}
+use Rattle.vad_call.specs.Answers.{Detected}
 use Rattle.std.specs.Prelude.{Result, Ok, Err, ⊤}
 use Rattle.refusals.specs.Refusals.{number_in, if_passed}
 use Rattle.refusals.specs.declared.Refusal.{Refusal}

@@ -7,7 +7,7 @@ use Rattle.vad_row.specs.declared.Row.{Row}
 use Rattle.vad_state.specs.declared.VadDetector.{VadDetector}
 use Rattle.vad_call.specs.Calls.{measured_of, due_of, seeded_of, frames_due, rows_of_call, no_tally, tally_in}
 use Rattle.vad_call.specs.declared.Tally.{Tally}
-use Rattle.vad_call.specs.declared.Detected.{Detected}
+use Rattle.vad_call.specs.Answers.{Detected}
 use Rattle.vad_detector.specs.Entries.{detect_of, flush_of}
 use Rattle.vad_detector.specs.Readings.{undecided_read, rows_read, talk_read, segment_read}
 

@@ -34,7 +34,7 @@ use Rattle.refusals.specs.declared.Refusal.TheVariants as why
 use Rattle.vad_state.specs.declared.Stream.{Stream}
 use Rattle.vad_state.specs.declared.Kept.{Kept}
 use Rattle.vad_state.specs.declared.VadDetector.{VadDetector}
-use Rattle.vad_call.specs.declared.Detected.{Detected}
+use Rattle.vad_call.specs.Answers.{Detected}
 use Rattle.vad_call.specs.declared.Heard.{Heard}
 use Rattle.vad_call.specs.declared.Outcome.{Outcome}
 use Rattle.lists.proofs.Stores.{from_start}

@@ -21,7 +21,7 @@ use Rattle.std.specs.Result.{result_unwrap_or, result_and}
 use Rattle.refusals.proofs.First.{ok_or_err}
 use Rattle.refusals.specs.declared.Refusal.{Refusal}
 use Rattle.vad_call.specs.declared.Tally.{Tally}
-use Rattle.vad_call.specs.declared.Detected.{Detected}
+use Rattle.vad_call.specs.Answers.{Detected}
 use Rattle.vad_call.specs.declared.Heard.{Heard}
 
 -- ---- the parts of a call

@@ -23,7 +23,7 @@ use Rattle.vad_state.specs.declared.VadDetector.{VadDetector}
 use Rattle.refusals.specs.declared.Refusal.{Refusal}
 use Rattle.refusals.specs.declared.Refusal.TheVariants as why
 use Rattle.vad_call.specs.declared.Tally.{Tally}
-use Rattle.vad_call.specs.declared.Detected.{Detected}
+use Rattle.vad_call.specs.Answers.{Detected}
 use Rattle.vad_call.specs.declared.Heard.{Heard}
 
 -- ---- what a call works in

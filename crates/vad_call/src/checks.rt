@@ -1,26 +1,19 @@
 // What refuses a call before anything is heard.
-ghost use Rattle.std.specs.Prelude.{◌≡◌, ◌≤◌, length};
+ghost use Rattle.std.specs.Prelude.{◌≡◌, ◌≤◌};
 ghost use Rattle.refusals.specs.Refusals.{first_of};
-ghost use Rattle.ranges.specs.Sizes.{frame_most, warmup_most, received_most};
+ghost use Rattle.ranges.specs.Sizes.{received_most};
 ghost use Rattle.vad_state.specs.State.{state_of};
 ghost use Rattle.vad_call.specs.Checks.{block_refusals, check_of};
 
 use ranges::{BLOCK_MOST, RECEIVED_MOST};
 use refusals::Refusal;
-use vad_state::{Kept, sound_lent};
+use vad_state::{Kept, LentArrays, sound_lent};
 
 // 19, 15, 16 and 17, in this order, of a state whose arrays are lent.
-pub fn check<'a>(
-    kept: Kept,
-    window: &'a [f32],
-    carry: &'a [f32],
-    warmup: &'a [f32],
-    samples: &[f32],
-) -> Result<(), Refusal>
-    requires { (length window.now ≡ frame_most) × (length carry.now ≡ frame_most) × (length warmup.now ≡ warmup_most) }
-    ensures { result ≡ check_of (state_of kept window.now carry.now warmup.now) samples.now }
+pub fn check(kept: Kept, arrays: LentArrays, samples: &[f32]) -> Result<(), Refusal>
+    ensures { result ≡ check_of (state_of kept arrays.entry.window.now arrays.entry.carry.now arrays.entry.warmup.now) samples.now }
 {
-    if !sound_lent(kept, window, carry, warmup) {
+    if !sound_lent(kept, arrays) {
         return Err(Refusal::State);
     }
     block_refusal(kept.stream.processed_samples, samples)

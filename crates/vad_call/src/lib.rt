@@ -21,10 +21,10 @@ use vad_frames::Framed;
 use vad_row::ROW_FIELDS;
 use vad_segments::Track;
 use vad_state::arrays::{clear_past, fill, put_first};
-use vad_state::{Desk, Kept, Stream, VadDetector};
+use vad_state::{Desk, Kept, LentArrays, Stream, VadDetector};
 
 // What a call counted: frames judged, the loud and the quiet among them, and rows written; and the floor after it.
-#[derive(Clone, Copy)]
+#[derive(Clone, Copy, Default)]
 pub struct Tally {
     pub frames: usize,
     pub loud: usize,
@@ -33,12 +33,15 @@ pub struct Tally {
     pub rows: usize,
 }
 
-// What detect and flush answer: the state is a new one only where nothing was refused.
+// What a call answers, and the state, which is a new one only where nothing was refused.
 #[derive(Clone, Copy)]
-pub struct Detected {
-    pub outcome: Result<Tally, Refusal>,
+pub struct Answered<T> {
+    pub outcome: Result<T, Refusal>,
     pub detector: VadDetector,
 }
+
+// Of detect and flush.
+pub type Detected = Answered<Tally>;
 
 // What a call heard: where the new carry starts among the values, and the state's numbers and the tally after it.
 #[derive(Clone, Copy)]
@@ -204,7 +207,7 @@ fn report(kept: Kept, received: u64, due: &[f32], finish: bool, needed: u64, row
 pub fn refused(by: Refusal, detector: VadDetector) -> Detected
     ensures { result ≡ refused_by by detector }
 {
-    Detected {
+    Answered {
         outcome: Err(by),
         detector,
     }
@@ -307,29 +310,32 @@ fn concluded(
 }
 
 // A block heard, or with `finish` the stream's end, by a state's numbers and its arrays as they are lent. The values and the energies stay in the slices lent for them: the new carry starts at `consumed` among the values, the energies held stand first.
-pub fn hear<'a>(
+pub fn hear(
     kept: Kept,
-    window: &'a [f32],
-    carry: &'a [f32],
-    warmup: &'a [f32],
+    arrays: LentArrays,
     samples: &[f32],
     finish: bool,
     values: &mut [f32],
     energies: &mut [f32],
     rows: &mut [u64],
 ) -> Result<Heard, Refusal>
-    requires warmup_value { sound_of (state_of kept window.now carry.now warmup.now) ≡ true }
-    requires window_len { (length window.now ≡ frame_most) × (length carry.now ≡ frame_most) × (length warmup.now ≡ warmup_most) × (length values.old ≡ values_most) × (length energies.old ≡ energies_most) }
+    requires arrays_value { sound_of (state_of kept arrays.window.now arrays.carry.now arrays.warmup.now) ≡ true }
+    requires values_len { (length values.old ≡ values_most) × (length energies.old ≡ energies_most) }
     requires samples_len_bound { (length samples.now ≤ block_most) × (kept.stream.processed_samples + length samples.now ≤ received_most) }
-    ensures rows_value { ran_of finish (state_of kept window.now carry.now warmup.now) samples.now (length rows.old) ≡ settled_of result values.new energies.new (state_of kept window.now carry.now warmup.now) }
-    ensures kept_value { IfOk result (λ h. (h.kept ≡ (ran_of finish (state_of kept window.now carry.now warmup.now) samples.now (length rows.old)).detector.kept) × (h.kept.stream.carry_start ≡ kept.stream.carry_start + h.consumed)) }
+    ensures rows_value { ran_of finish (state_of kept arrays.entry.window.now arrays.entry.carry.now arrays.entry.warmup.now) samples.now (length rows.old) ≡ settled_of result values.new energies.new (state_of kept arrays.entry.window.now arrays.entry.carry.now arrays.entry.warmup.now) }
+    ensures kept_value { IfOk result (λ h. (h.kept ≡ (ran_of finish (state_of kept arrays.entry.window.now arrays.entry.carry.now arrays.entry.warmup.now) samples.now (length rows.old)).detector.kept) × (h.kept.stream.carry_start ≡ kept.stream.carry_start + h.consumed)) }
     ensures carry_len_bound { IfOk result PartsFit }
-    ensures rows_left { rows.new ≡ written_of finish (state_of kept window.now carry.now warmup.now) samples.now rows.old }
+    ensures rows_left { rows.new ≡ written_of finish (state_of kept arrays.entry.window.now arrays.entry.carry.now arrays.entry.warmup.now) samples.now rows.old }
 {
     let coeff = vad_frames::coefficient(
         kept.rules.config.has_pre_emphasis,
         kept.rules.config.pre_emphasis,
     );
+    let LentArrays {
+        window,
+        carry,
+        warmup,
+    } = arrays;
     let last = gather(
         carry,
         kept.stream.carry_len,
@@ -386,10 +392,10 @@ fn joined(mut detector: VadDetector, kept: Kept, carry: &[f32], held: &[f32]) ->
 fn settled(
     hearing: Result<Heard, Refusal>,
     detector: VadDetector,
-    values: &[f32],
-    energies: &[f32],
+    values: &[f32; VALUES_MOST],
+    energies: &[f32; ENERGIES_MOST],
 ) -> Detected
-    requires frame_length_bound { (detector.kept.rules.lengths.frame_length ≤ frame_most) × (length values.now ≡ values_most) × (length energies.now ≡ energies_most) }
+    requires frame_length_bound { detector.kept.rules.lengths.frame_length ≤ frame_most }
     requires carry_len_bound { IfOk hearing PartsFit }
     ensures { result ≡ settled_of hearing values.now energies.now detector }
 {
@@ -400,8 +406,13 @@ fn settled(
 }
 
 // The answer to a call that was not refused.
-fn taken(heard: Heard, detector: VadDetector, values: &[f32], energies: &[f32]) -> Detected
-    requires frame_length_bound { (detector.kept.rules.lengths.frame_length ≤ frame_most) × (length values.now ≡ values_most) × (length energies.now ≡ energies_most) }
+fn taken(
+    heard: Heard,
+    detector: VadDetector,
+    values: &[f32; VALUES_MOST],
+    energies: &[f32; ENERGIES_MOST],
+) -> Detected
+    requires frame_length_bound { detector.kept.rules.lengths.frame_length ≤ frame_most }
     requires carry_len_bound { PartsFit heard }
     ensures { result ≡ taken_of heard values.now energies.now detector }
 {
@@ -409,7 +420,7 @@ fn taken(heard: Heard, detector: VadDetector, values: &[f32], energies: &[f32]) 
     let consumed = heard.consumed;
     let end = consumed + kept.stream.carry_len;
     let held = kept.desk.held;
-    Detected {
+    Answered {
         outcome: Ok(heard.tally),
         detector: joined(detector, kept, &values[consumed..end], &energies[0..held]),
     }
@@ -428,9 +439,11 @@ pub fn run(detector: VadDetector, samples: &[f32], finish: bool, rows: &mut [u64
     settled(
         hear(
             kept,
-            &detector.window,
-            &detector.carry,
-            &detector.warmup,
+            LentArrays {
+                window: &detector.window,
+                carry: &detector.carry,
+                warmup: &detector.warmup,
+            },
             samples,
             finish,
             &mut values,

@@ -14,8 +14,9 @@ use refusals::Refusal;
 
 const NANOS_PER_SECOND: u64 = 1_000_000_000;
 
-// The Rust's names in its order. A duration is in nanoseconds, and an optional number is a flag and a number.
-#[derive(Clone, Copy)]
+// The Rust's names in its order. A duration is in nanoseconds. The optional number is a flag and a number, as C hands both over: the stored state keeps the number even where
+// the flag is off (`open_floats`).
+#[derive(Clone, Copy, Default)]
 pub struct VadConfig {
     pub sample_rate: u32,
     pub frame_duration: u64,
@@ -34,7 +35,7 @@ pub struct VadConfig {
 }
 
 // What opening works out, in frames and samples.
-#[derive(Clone, Copy, PartialEq, Eq)]
+#[derive(Clone, Copy, PartialEq, Eq, Default)]
 pub struct Lengths {
     pub frame_length: usize,
     pub hop_length: usize,

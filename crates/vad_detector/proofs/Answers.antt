@@ -28,8 +28,8 @@ use Rattle.vad_call.specs.Checks.{check_of}
 use Rattle.vad_detector.specs.Entries.{detect_of, detect_rows, flush_of, flush_rows}
 use Rattle.vad_state.specs.declared.VadDetector.{VadDetector}
 use Rattle.refusals.specs.declared.Refusal.{Refusal}
-use Rattle.vad_call.specs.declared.Detected.{Detected}
-use Rattle.vad_detector.specs.declared.Opened.{Opened}
+use Rattle.vad_call.specs.Answers.{Detected}
+use Rattle.vad_detector.specs.Answers.{Opened}
 
 -- ---- opening
 

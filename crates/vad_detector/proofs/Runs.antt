@@ -46,7 +46,7 @@ use Rattle.vad_detector.specs.Entries.{detect_of, flush_of}
 use Rattle.vad_detector.specs.Readings.{read_of, undecided_read, analyzed_read, rows_read, talk_read, floor_read, segment_read}
 use Rattle.vad_detector.specs.Run.{Call, Detect, Flush, Reset, next, number_of, play, none_counted}
 use Rattle.vad_state.specs.declared.VadDetector.{VadDetector}
-use Rattle.vad_call.specs.declared.Detected.{Detected}
+use Rattle.vad_call.specs.Answers.{Detected}
 use Rattle.refusals.specs.declared.Refusal.{Refusal}
 use Rattle.vad_state.proofs.Parts.{ActiveIn, HeldIn, Sound, whole}
 use Rattle.vad_state.proofs.Fills.{filled_take}

@@ -8,11 +8,11 @@ use Rattle.refusals.specs.declared.Refusal.{Refusal}
 use Rattle.float.proofs.Unique.{only}
 use Rattle.vad_config.specs.declared.VadConfig.{VadConfig}
 use Rattle.vad_state.specs.declared.VadDetector.{VadDetector}
-use Rattle.vad_call.specs.declared.Detected.{Detected}
+use Rattle.vad_call.specs.Answers.{Detected}
 use Rattle.vad_detector.specs.Opening.{open_of, reset_of}
 use Rattle.vad_detector.specs.Entries.{detect_of, detect_rows, flush_of, flush_rows}
 use Rattle.vad_detector.specs.Readings.{undecided_read, analyzed_read, rows_read, talk_read, floor_read, segment_read}
-use Rattle.vad_detector.specs.declared.Opened.{Opened}
+use Rattle.vad_detector.specs.Answers.{Opened}
 
 pub open_unique : (c : VadConfig) (window : List Float) (rise : Float) (r q : Opened) → r ≡ open_of c window rise → q ≡ open_of c window rise → r ≡ q
 open_unique c window rise r q = only

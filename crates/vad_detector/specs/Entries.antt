@@ -6,7 +6,7 @@ use Rattle.vad_state.specs.State.{sound_of}
 use Rattle.vad_call.specs.Checks.{check_of}
 use Rattle.vad_call.specs.Calls.{refused_by, ran_of, written_of}
 use Rattle.vad_state.specs.declared.VadDetector.{VadDetector}
-use Rattle.vad_call.specs.declared.Detected.{Detected}
+use Rattle.vad_call.specs.Answers.{Detected}
 
 -- 'Detect 19, 15, 16, 17' .. and 18
 unfoldable pub detect_of : VadDetector → List Float → ℕ → Detected

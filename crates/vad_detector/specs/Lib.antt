@@ -1,3 +1,4 @@
+pub mod Answers
 pub mod Opening
 pub mod Entries
 pub mod Readings

@@ -17,7 +17,7 @@ use Rattle.vad_state.specs.Arrays.{filled_of}
 use Rattle.ranges.specs.Sizes.{frame_most, warmup_most}
 use Rattle.vad_state.specs.State.{state_of, weights_in, window_of, sound_of}
 use Rattle.vad_state.specs.declared.VadDetector.{VadDetector}
-use Rattle.vad_detector.specs.declared.Opened.{Opened}
+use Rattle.vad_detector.specs.Answers.{Opened}
 
 -- 14: 'window length differs from the frame, an entry is not in [0,1], or the rise weight is not in [0.5,1]'
 unfoldable pub weights_fit : ℕ → List Float → Float → Bool

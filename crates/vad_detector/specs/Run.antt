@@ -4,7 +4,7 @@ use Rattle.refusals.specs.Refusals.{number_in}
 use Rattle.refusals.specs.declared.Refusal.{Refusal}
 use Rattle.vad_call.specs.Calls.{no_tally}
 use Rattle.vad_call.specs.declared.Tally.{Tally}
-use Rattle.vad_call.specs.declared.Detected.{Detected}
+use Rattle.vad_call.specs.Answers.{Detected}
 use Rattle.vad_detector.specs.Opening.{reset_of}
 use Rattle.vad_detector.specs.Entries.{detect_of, flush_of}
 use Rattle.vad_state.specs.declared.VadDetector.{VadDetector}

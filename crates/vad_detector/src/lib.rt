@@ -6,25 +6,21 @@ ghost use Rattle.std.specs.Prelude.{◌≡◌, true, ◌≤◌, length};
 ghost use Rattle.ranges.specs.Sizes.{frame_most};
 ghost use Rattle.vad_state.specs.State.{sound_of};
 ghost use Rattle.vad_call.specs.Checks.{check_of};
-ghost use Rattle.vad_detector.specs.Opening.{weights_fit, open_verdict, blank_of, fresh_of, zero_rules, nothing_open, open_of, reset_to, reset_of};
+ghost use Rattle.vad_detector.specs.Opening.{weights_fit, open_verdict, blank_of, fresh_of, nothing_open, open_of, reset_to, reset_of};
 ghost use Rattle.vad_detector.specs.Entries.{detect_of, detect_rows, flush_of, flush_rows};
 ghost use Rattle.vad_detector.specs.Readings.{read_of, undecided_read, analyzed_read, rows_read, talk_read, floor_read, open_start, segment_read};
 
 use ranges::{BLOCK_MOST, FRAME_MOST, RECEIVED_MOST, WARMUP_MOST};
 use refusals::Refusal;
-use vad_call::{Detected, refused, run};
-use vad_config::{Lengths, VadConfig};
+use vad_call::{Answered, Detected, refused, run};
+use vad_config::VadConfig;
 use vad_segments::setters::fresh_track;
 use vad_segments::{ActiveSegmentState, Rules};
 use vad_state::arrays::filled;
-use vad_state::{Desk, Kept, Stream, VadDetector, sound, weights_in};
+use vad_state::{Desk, Kept, LentArrays, Stream, VadDetector, sound, weights_in};
 
-// What opening and reset answer, and the state.
-#[derive(Clone, Copy)]
-pub struct Opened {
-    pub outcome: Result<(), Refusal>,
-    pub detector: VadDetector,
-}
+// What opening and reset answer.
+pub type Opened = Answered<()>;
 
 // No sound, and no frame held.
 fn blank(rules: Rules, warming: bool, noise_floor: f32, window: &[f32]) -> VadDetector
@@ -61,44 +57,12 @@ fn fresh(rules: Rules, window: &[f32]) -> VadDetector
     blank(rules, true, rules.config.energy_floor, window)
 }
 
-#[tactic(auto, unfolding(crate::specs::Opening::zero_rules))]
-fn zero_rules() -> Rules
-    ensures { result ≡ zero_rules }
-{
-    let config = VadConfig {
-        sample_rate: 0,
-        frame_duration: 0,
-        frame_overlap: 0.0,
-        has_pre_emphasis: false,
-        pre_emphasis: 0.0,
-        activation_ratio: 0.0,
-        release_ratio: 0.0,
-        min_speech_energy: 0.0,
-        noise_smoothing: 0.0,
-        energy_floor: 0.0,
-        hangover_frames: 0,
-        speech_padding: 0,
-        min_speech_frames: 0,
-        stream_start_time: 0,
-    };
-    Rules {
-        config,
-        lengths: Lengths {
-            frame_length: 0,
-            hop_length: 0,
-            warmup_frames: 0,
-            padding_samples: 0,
-        },
-        speech_floor_rise: 0.0,
-    }
-}
-
 // What a refused opening returns: all zeros, refused by 19 in every later call.
-#[tactic(auto, unfolding(crate::specs::Opening::nothing_open))]
+#[tactic(auto, unfolding(crate::specs::Opening::nothing_open, crate::specs::Opening::zero_rules))]
 fn nothing_open() -> VadDetector
     ensures { result ≡ nothing_open }
 {
-    blank(zero_rules(), false, 0.0, &[])
+    blank(Rules::default(), false, 0.0, &[])
 }
 
 // 14: what the host hands in, against the frame's length.
@@ -127,7 +91,7 @@ pub fn open(config: VadConfig, window: &[f32], speech_floor_rise: f32) -> Opened
 {
     let outcome = opening_refusal(config, window, speech_floor_rise);
     if outcome.is_err() {
-        return Opened {
+        return Answered {
             outcome,
             detector: nothing_open(),
         };
@@ -137,7 +101,7 @@ pub fn open(config: VadConfig, window: &[f32], speech_floor_rise: f32) -> Opened
         lengths: vad_config::lengths_of(config),
         speech_floor_rise,
     };
-    Opened {
+    Answered {
         outcome,
         detector: fresh(rules, window),
     }
@@ -164,18 +128,18 @@ pub fn reset(detector: VadDetector, stream_start_time: u64) -> Opened
     ensures { result ≡ reset_of detector stream_start_time }
 {
     if !sound(detector) {
-        return Opened {
+        return Answered {
             outcome: Err(Refusal::State),
             detector,
         };
     }
     if !vad_config::start_allowed(stream_start_time) {
-        return Opened {
+        return Answered {
             outcome: Err(Refusal::Limits),
             detector,
         };
     }
-    Opened {
+    Answered {
         outcome: Ok(()),
         detector: restarted(detector, stream_start_time),
     }
@@ -187,9 +151,11 @@ fn check(detector: VadDetector, samples: &[f32]) -> Result<(), Refusal>
 {
     vad_call::checks::check(
         detector.kept,
-        &detector.window,
-        &detector.carry,
-        &detector.warmup,
+        LentArrays {
+            window: &detector.window,
+            carry: &detector.carry,
+            warmup: &detector.warmup,
+        },
         samples,
     )
 }

@@ -26,7 +26,7 @@ use Rattle.vad_state.specs.declared.VadDetector.{VadDetector}
 use Rattle.vad_state.proofs.Parts.{ActiveIn, Sound, parts, frame_high}
 use Rattle.vad_call.specs.Calls.{values_most, rows_of_call, values_of, measured_of, stream_after, carry_after, holding_of, held_after, due_of, seeded_of, grid_start, frames_due, verdict_of, rows_due, too_many, refused_by, accepted_of, concluded_of, ran_of, energies_most}
 use Rattle.vad_call.specs.declared.Tally.{Tally}
-use Rattle.vad_call.specs.declared.Detected.{Detected}
+use Rattle.vad_call.specs.Answers.{Detected}
 use Rattle.vad_call.proofs.Calls.{measured_few}
 use Rattle.vad_call.specs.Checks.{block_refusals, check_of}
 use Rattle.refusals.specs.Refusals.{number_in, carries_in, refusing, if_passed}

@@ -22,7 +22,7 @@ use Rattle.vad_state.specs.declared.VadDetector.{VadDetector}
 use Rattle.vad_state.proofs.Parts.{Sound, parts}
 use Rattle.vad_state.proofs.Fills.{filled_length}
 use Rattle.vad_call.specs.Calls.{measured_of, carry_after, holding_with, holding_of, held_after, joined_of, advanced_of, tally_in}
-use Rattle.vad_call.specs.declared.Detected.{Detected}
+use Rattle.vad_call.specs.Answers.{Detected}
 use Rattle.vad_call.proofs.Calls.{carry_few, held_few}
 use Rattle.vad_detector.specs.Opening.{open_verdict, open_refusal, rules_of, fresh_of, zero_rules, nothing_open, open_of, restarted_of, reset_to, reset_of}
 use Rattle.vad_detector.specs.Entries.{detect_of, flush_of}

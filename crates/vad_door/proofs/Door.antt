@@ -25,7 +25,7 @@ use Rattle.vad_state.specs.declared.Kept.{Kept}
 use Rattle.vad_state.specs.declared.VadDetector.{VadDetector}
 use Rattle.vad_state.proofs.Parts.{parts}
 use Rattle.vad_call.specs.Calls.{no_tally, tally_in, refused_by, ran_of, written_of, tallied}
-use Rattle.vad_call.specs.declared.Detected.{Detected}
+use Rattle.vad_call.specs.Answers.{Detected}
 use Rattle.vad_call.specs.declared.Heard.{Heard}
 use Rattle.refusals.specs.declared.Refusal.{Refusal}
 use Rattle.vad_call.specs.declared.Tally.{Tally}
@@ -35,7 +35,7 @@ use Rattle.vad_call.specs.Checks.{block_refusals, check_of}
 use Rattle.vad_detector.specs.Entries.{detect_of, detect_rows, flush_of, flush_rows}
 use Rattle.vad_detector.specs.Run.{Detect, Flush, Reset, answered, none_counted}
 use Rattle.vad_detector.specs.Readings.{read_of, undecided_in, undecided_read, analyzed_read, rows_read, talk_read, floor_read, open_start, segment_read}
-use Rattle.vad_detector.specs.declared.Opened.{Opened}
+use Rattle.vad_detector.specs.Answers.{Opened}
 use Rattle.vad_detector.proofs.Answers.{checked}
 use Rattle.vad_lent.specs.Lent.{state_at, arrays_in}
 use Rattle.vad_lent.proofs.Laws.{arrays_back}

@@ -9,7 +9,7 @@ use Rattle.refusals.specs.declared.Refusal.{Refusal}
 use Rattle.vad_config.specs.declared.VadConfig.{VadConfig}
 use Rattle.vad_call.specs.Calls.{no_tally, tally_in}
 use Rattle.vad_state.specs.declared.VadDetector.{VadDetector}
-use Rattle.vad_call.specs.declared.Detected.{Detected}
+use Rattle.vad_call.specs.Answers.{Detected}
 use Rattle.vad_detector.specs.Opening.{open_refusal, open_of}
 use Rattle.vad_detector.specs.Entries.{detect_rows, flush_rows}
 use Rattle.vad_detector.specs.Run.{Call, answered}

@@ -11,7 +11,7 @@ use Rattle.vad_state.specs.declared.Kept.{Kept}
 use Rattle.vad_state.specs.declared.VadDetector.{VadDetector}
 use Rattle.vad_call.specs.Calls.{refused_by, ran_of, written_of}
 use Rattle.vad_call.specs.declared.Tally.{Tally}
-use Rattle.vad_call.specs.declared.Detected.{Detected}
+use Rattle.vad_call.specs.Answers.{Detected}
 use Rattle.vad_call.specs.Checks.{check_of}
 use Rattle.vad_detector.specs.Readings.{open_start}
 use Rattle.vad_memory.specs.DetectorState.{kept_at, detector_at, readable}

@@ -68,16 +68,11 @@ fn put_opened(numbers: &mut [u64], floats: &mut [f32], opened: Opened) -> u64
     number_in(opened.outcome) as u64
 }
 
+#[tactic(auto, unfolding(vad_call::specs::Calls::no_tally))]
 fn nothing_counted() -> Tally
     ensures { result ≡ no_tally }
 {
-    Tally {
-        frames: 0,
-        loud: 0,
-        quiet: 0,
-        noise_floor: 0.0,
-        rows: 0,
-    }
+    Tally::default()
 }
 
 // Hears a block, or with `finish` the stream's end, in a state that no check refused. The arrays are changed where they stand and the numbers put beside them; nothing is written where the rows do not fit.
@@ -140,8 +135,7 @@ pub fn flush(numbers: &mut [u64], floats: &mut [f32], rows: &mut [u64]) -> u64
     ensures floats_left { floats.new ≡ call_floats numbers.old floats.old (answered (Flush (length rows.old))) }
     ensures rows_left { rows.new ≡ flushed_rows numbers.old floats.old rows.old }
 {
-    let none = [0.0; 1];
-    word(call(numbers, floats, &none[0..0], true, rows))
+    word(call(numbers, floats, &[], true, rows))
 }
 
 // Apart from `reset`, where the state read would be one more struct at every place.

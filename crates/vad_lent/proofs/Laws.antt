@@ -13,7 +13,7 @@ use Rattle.vad_state.proofs.Fills.{filled_length}
 use Rattle.vad_state.specs.State.{state_of, window_of}
 use Rattle.vad_state.specs.declared.Kept.{Kept}
 use Rattle.vad_call.specs.Calls.{refused_by, joined_of, taken_of, settled_of, tallied}
-use Rattle.vad_call.specs.declared.Detected.{Detected}
+use Rattle.vad_call.specs.Answers.{Detected}
 use Rattle.vad_call.specs.declared.Heard.{Heard}
 use Rattle.std.specs.Prelude.{Result, Ok, Err, IfOk}
 use Rattle.refusals.specs.declared.Refusal.{Refusal}

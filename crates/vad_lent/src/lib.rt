@@ -16,34 +16,30 @@ use vad_call::checks::check;
 use vad_call::{ENERGIES_MOST, Heard, VALUES_MOST, hear};
 use vad_layout::in_floats;
 use vad_state::arrays::{clear, fill_slice};
-use vad_state::{Kept, sound_lent};
+use vad_state::{Kept, LentArrays, sound_lent};
 
-fn window_in(floats: &[f32]) -> &[f32]
+// The arrays in their places.
+fn lent_in(floats: &[f32]) -> LentArrays
     requires { singles_first ≤ length floats.now }
-    ensures { result.now ≡ take frame_most floats.now }
+    ensures window_value { result.window.now ≡ take frame_most floats.now }
+    ensures carry_value { result.carry.now ≡ take frame_most (drop carry_first floats.now) }
+    ensures warmup_value { result.warmup.now ≡ take warmup_most (drop warmup_first floats.now) }
 {
-    &floats[0..in_floats::CARRY]
-}
-
-fn carry_in(floats: &[f32]) -> &[f32]
-    requires { singles_first ≤ length floats.now }
-    ensures { result.now ≡ take frame_most (drop carry_first floats.now) }
-{
-    &floats[in_floats::CARRY..in_floats::WARMUP]
-}
-
-fn warmup_in(floats: &[f32]) -> &[f32]
-    requires { singles_first ≤ length floats.now }
-    ensures { result.now ≡ take warmup_most (drop warmup_first floats.now) }
-{
-    &floats[in_floats::WARMUP..in_floats::SINGLES]
+    let (window, behind) = floats.split_first_chunk().unwrap();
+    let (carry, behind) = behind.split_first_chunk().unwrap();
+    let (warmup, _) = behind.split_first_chunk().unwrap();
+    LentArrays {
+        window,
+        carry,
+        warmup,
+    }
 }
 
 pub fn sound_at(kept: Kept, floats: &[f32]) -> bool
     requires { singles_first ≤ length floats.now }
     ensures { result ≡ sound_of (state_at kept floats.now) }
 {
-    sound_lent(kept, window_in(floats), carry_in(floats), warmup_in(floats))
+    sound_lent(kept, lent_in(floats))
 }
 
 // 19, 15, 16 and 17, in this order.
@@ -51,13 +47,7 @@ pub fn check_at(kept: Kept, floats: &[f32], samples: &[f32]) -> Result<(), Refus
     requires { singles_first ≤ length floats.now }
     ensures { result ≡ check_of (state_at kept floats.now) samples.now }
 {
-    check(
-        kept,
-        window_in(floats),
-        carry_in(floats),
-        warmup_in(floats),
-        samples,
-    )
+    check(kept, lent_in(floats), samples)
 }
 
 // The frame's part of the window stays; zeros stand past the used parts.
@@ -75,10 +65,10 @@ fn put_heard(
     floats: &mut [f32],
     frame_length: usize,
     heard: Heard,
-    values: &[f32],
-    energies: &[f32],
+    values: &[f32; VALUES_MOST],
+    energies: &[f32; ENERGIES_MOST],
 )
-    requires singles_first_in_bounds { (singles_first ≤ length floats.old) × (frame_length ≤ frame_most) × (length values.now ≡ values_most) × (length energies.now ≡ energies_most) }
+    requires singles_first_in_bounds { (singles_first ≤ length floats.old) × (frame_length ≤ frame_most) }
     requires carry_len_bound { PartsFit heard }
     ensures { floats.new ≡ heard_in frame_length heard values.now energies.now floats.old }
 {
@@ -98,10 +88,10 @@ fn settle_at(
     floats: &mut [f32],
     frame_length: usize,
     hearing: Result<Heard, Refusal>,
-    values: &[f32],
-    energies: &[f32],
+    values: &[f32; VALUES_MOST],
+    energies: &[f32; ENERGIES_MOST],
 )
-    requires singles_first_in_bounds { (singles_first ≤ length floats.old) × (frame_length ≤ frame_most) × (length values.now ≡ values_most) × (length energies.now ≡ energies_most) }
+    requires singles_first_in_bounds { (singles_first ≤ length floats.old) × (frame_length ≤ frame_most) }
     requires carry_len_bound { IfOk hearing PartsFit }
     ensures { floats.new ≡ settled_in frame_length hearing values.now energies.now floats.old }
 {
@@ -129,9 +119,7 @@ pub fn hear_at(
     let mut energies = [0.0; ENERGIES_MOST];
     let hearing = hear(
         kept,
-        window_in(floats),
-        carry_in(floats),
-        warmup_in(floats),
+        lent_in(floats),
         samples,
         finish,
         &mut values,

@@ -21,7 +21,7 @@ pub fn long_enough(numbers: &[u64], floats: &[f32]) -> bool
     NUMBERS <= numbers.len() && FLOATS <= floats.len()
 }
 
-// Long enough, of this layout, the rate in its 32 bits, and each flag 0 or 1. The detector itself judges the rest.
+// Long enough, of this layout, the rate in its 32 bits, and each flag 0 or 1. The detector itself judges the rest. Not one `&&`: its proof asks for a split at each place.
 pub fn is_readable(numbers: &[u64], floats: &[f32]) -> bool
     ensures { result ≡ readable numbers.now floats.now }
 {

@@ -1,4 +1,4 @@
-// A row, what is reported of a segment that closed: its numbers, where they are written, and what it counts as talk.
+// A row, what is reported of a segment that closed: its numbers, where they are written, and what it counts as talk. C lends room for numbers, not for rows.
 
 #![tactic(auto)]
 

@@ -27,10 +27,7 @@ fn segment_for(active: Option<ActiveSegmentState>, start: u64) -> ActiveSegmentS
     active.unwrap_or(ActiveSegmentState {
         start_sample: start,
         last_end_sample: start,
-        score_total: 0,
-        energy_sum: 0.0,
-        loud_frames: 0,
-        silence_run: 0,
+        ..ActiveSegmentState::default()
     })
 }
 

@@ -16,7 +16,7 @@ use vad_config::{Lengths, VadConfig};
 use vad_row::Row;
 
 // What opening fixed: the settings, the lengths worked out from them, and the weight that the host handed in.
-#[derive(Clone, Copy)]
+#[derive(Clone, Copy, Default)]
 pub struct Rules {
     pub config: VadConfig,
     pub lengths: Lengths,
@@ -40,7 +40,7 @@ pub struct FrameMetrics {
     pub energy: f32,
 }
 
-#[derive(Clone, Copy)]
+#[derive(Clone, Copy, Default)]
 pub struct ActiveSegmentState {
     pub start_sample: u64,
     // End of the last loud frame.

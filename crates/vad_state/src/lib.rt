@@ -41,7 +41,8 @@ pub struct Kept {
     pub desk: Desk,
 }
 
-// The Rust's `VadDetector` and `DetectorState`. Past the used part of an array an accepted call leaves zeros.
+// The Rust's `VadDetector` and `DetectorState`. Past the used part of an array an accepted call leaves zeros. How much is used stands among the numbers: there is no heap, and
+// the host keeps numbers and floats apart.
 #[derive(Clone, Copy)]
 pub struct VadDetector {
     pub kept: Kept,
@@ -51,6 +52,14 @@ pub struct VadDetector {
     pub carry: [f32; FRAME_MOST],
     // The energies of the frames held.
     pub warmup: [f32; WARMUP_MOST],
+}
+
+// A state's arrays as they are lent, so that none is copied.
+#[derive(Clone, Copy)]
+pub struct LentArrays<'a> {
+    pub window: &'a [f32; FRAME_MOST],
+    pub carry: &'a [f32; FRAME_MOST],
+    pub warmup: &'a [f32; WARMUP_MOST],
 }
 
 // Of 14 what does not speak of the window's length.
@@ -143,17 +152,21 @@ fn active_sound(
     active.is_none_or(|segment| segment_sound(hangover_frames, received, last_segment_end, segment))
 }
 
-// A state whose arrays are lent, so that none is copied. They have one lifetime, as three fields of one state that are lent at once.
+// A state whose arrays are lent.
 #[tactic(auto, unfolding(crate::specs::State::sound_of))]
-pub fn sound_lent<'a>(kept: Kept, window: &'a [f32], carry: &'a [f32], warmup: &'a [f32]) -> bool
-    requires { (length window.now ≡ frame_most) × (length carry.now ≡ frame_most) × (length warmup.now ≡ warmup_most) }
-    ensures { result ≡ sound_of (state_of kept window.now carry.now warmup.now) }
+pub fn sound_lent(kept: Kept, arrays: LentArrays) -> bool
+    ensures { result ≡ sound_of (state_of kept arrays.entry.window.now arrays.entry.carry.now arrays.entry.warmup.now) }
 {
     let Kept {
         rules,
         stream,
         desk,
     } = kept;
+    let LentArrays {
+        window,
+        carry,
+        warmup,
+    } = arrays;
     let track = desk.track;
     let received = stream.processed_samples;
     settings_sound(rules, window)
@@ -173,8 +186,10 @@ pub fn sound(detector: VadDetector) -> bool
 {
     sound_lent(
         detector.kept,
-        &detector.window,
-        &detector.carry,
-        &detector.warmup,
+        LentArrays {
+            window: &detector.window,
+            carry: &detector.carry,
+            warmup: &detector.warmup,
+        },
     )
 }

@@ -22,7 +22,7 @@ impl<R: Read> Words<R> {
         Words { input }
     }
 
-    // Fills the bytes as far as the input goes, and answers how far.
+    // Fills the bytes as far as the input goes, and answers how far. How far each read goes the reader says, so this is no loop over places.
     fn fill(&mut self, bytes: &mut [u8; 4]) -> io::Result<usize>
         ensures fits { IfOk result (λ n. n ≤ 4) }
         ensures filled { IfOk result (λ n. Consumes (R.remaining self.old.input) (R.remaining self.new.input) (take n bytes.new)) }

@@ -1,8 +1,10 @@
 use mathlib.Core.Path.{◌≡◌, refl, ap, ◌∙◌}
+use mathlib.Core.List.{List}
 use Prim.Native.Nat.{◌+◌, ◌-◌, ◌≤◌}
 use native.Mathlib.Omega.{arith}
 use lib.ListN.{length, take, length-take}
 use lib.Seq.{sets}
+use lib.Ieee.{Float}
 use Rattle.vad_segments.specs.Rooms.{positions_first}
 use Rattle.ranges.specs.Sizes.{frame_most, warmup_most}
 use Rattle.vad_state.specs.State.{state_of}
@@ -16,68 +18,86 @@ use Rattle.vad_call.proofs.hear.Goals as goal
 
 -- the state that the numbers and the lent arrays are
 abbrev state : Start → VadDetector
-state s = state_of s.args.kept s.args.window.now s.args.carry.now s.args.warmup.now
+state s = state_of s.args.kept s.args.arrays.window.now s.args.arrays.carry.now s.args.arrays.warmup.now
 
 sound : (s : Start) → Sound (state s)
-sound s = parts (state s) s.requires.warmup_value
+sound s = parts (state s) s.requires.arrays_value
 
 start-within : (s : Start) → s.args.kept.stream.carry_start ≤ positions_first
 start-within s = let joined = (sound s).joined in let received = (sound s).received in omega arith
-
-window-long : (s : Start) → length (state s).window ≡ frame_most
-window-long s = s.requires.window_len.0
-
-carry-long : (s : Start) → length (state s).carry ≡ frame_most
-carry-long s = s.requires.window_len.1
-
-warmup-long : (s : Start) → length (state s).warmup ≡ warmup_most
-warmup-long s = s.requires.window_len.2
 
 total-fits : (s : Start) → s.args.kept.stream.carry_len + length s.args.samples.now ≤ values_most
 total-fits s = total_few (state s) (sound s) (length s.args.samples.now) s.requires.samples_len_bound.0
 
 values-long : (g : After-gather-last) → length g.gather-last.new.values ≡ values_most
-values-long g = g.gather-last.auto.values ∙ g.requires.window_len.3
+values-long g = g.gather-last.auto.values ∙ g.requires.values_len.0
 
 energies-long : (m : After-measure-framed) → length m.measure-framed.new.energies ≡ energies_most
-energies-long m = m.measure-framed.auto.energies ∙ m.requires.window_len.4
+energies-long m = m.measure-framed.auto.energies ∙ m.requires.values_len.1
+
+abbrev put-state : After-gather-last → VadDetector
+put-state g = state_of g.args.kept g.args.arrays.window.now g.args.arrays.carry.now g.args.arrays.warmup.now
 
 -- what was put, in the state's words
-values-are : (g : After-gather-last) → g.gather-last.new.values ≡ sets g.args.values.now 0 (values_of (state g.before.before.before.before.before.before.before.before.before.before.before) g.args.samples.now)
+values-are : (g : After-gather-last) → g.gather-last.new.values ≡ sets g.args.values.now 0 (values_of (put-state g) g.args.samples.now)
 values-are g =
     let coeff = g.coefficient-coeff in
-    g.gather-last.ensures.values_left ∙ ap (sets g.args.values.now 0) (gathered_values (state g.before.before.before.before.before.before.before.before.before.before.before) g.args.samples.now coeff.result coeff.ensures)
+    g.gather-last.ensures.values_left ∙ ap (sets g.args.values.now 0) (gathered_values (put-state g) g.args.samples.now coeff.result coeff.ensures)
+
+abbrev waiting-state : After-waiting-held → VadDetector
+waiting-state w = state_of w.args.kept w.args.arrays.window.now w.args.arrays.carry.now w.args.arrays.warmup.now
 
 -- as many as are held
-waited : (w : After-waiting-held) → w.waiting-held.result ≡ length (waiting_of (state w.before.before.before.before.before.before.before.before.before.before.before.before.before.before.before))
-waited w = w.waiting-held.ensures ∙ waiting_count (state w.before.before.before.before.before.before.before.before.before.before.before.before.before.before.before) (sound w.before.before.before.before.before.before.before.before.before.before.before.before.before.before.before) (warmup-long w.before.before.before.before.before.before.before.before.before.before.before.before.before.before.before)
+waited : (w : After-waiting-held) → length w.args.arrays.warmup.now ≡ warmup_most → w.waiting-held.result ≡ length (waiting_of (waiting-state w))
+waited w long = w.waiting-held.ensures ∙ waiting_count (waiting-state w) (parts (waiting-state w) w.requires.arrays_value) long
 
-consumed_is : (m : After-measure-framed) → m.measure-framed.result.consumed ≡ consumed_from m.args.finish (state m.before.before.before.before.before.before.before.before.before.before.before.before.before.before.before.before.before.before) (take ((state m.before.before.before.before.before.before.before.before.before.before.before.before.before.before.before.before.before.before).kept.stream.carry_len + length m.args.samples.now - 0) m.gather-last.new.values)
-consumed_is m =
-    m.measure-framed.ensures.consumed_value ∙ framed_consumed m.args.finish (state m.before.before.before.before.before.before.before.before.before.before.before.before.before.before.before.before.before.before) (take (m.args.kept.stream.carry_len + length m.args.samples.now - 0) m.gather-last.new.values)
+module _ (m : After-measure-framed) where
+  abbrev d : VadDetector
+  d = state_of m.args.kept m.args.arrays.window.now m.args.arrays.carry.now m.args.arrays.warmup.now
 
-frames-are : (m : After-measure-framed) → m.measure-framed.result.frames ≡ length (measured_from m.args.finish (state m.before.before.before.before.before.before.before.before.before.before.before.before.before.before.before.before.before.before) (take ((state m.before.before.before.before.before.before.before.before.before.before.before.before.before.before.before.before.before.before).kept.stream.carry_len + length m.args.samples.now - 0) m.gather-last.new.values))
-frames-are m =
-    m.measure-framed.ensures.frames_value ∙ ap length (joined_measured m.args.finish (state m.before.before.before.before.before.before.before.before.before.before.before.before.before.before.before.before.before.before) m.waiting-held.result (m.waiting-held.ensures ∙ waiting_count (state m.before.before.before.before.before.before.before.before.before.before.before.before.before.before.before.before.before.before) (sound m.before.before.before.before.before.before.before.before.before.before.before.before.before.before.before.before.before.before) (warmup-long m.before.before.before.before.before.before.before.before.before.before.before.before.before.before.before.before.before.before)) (take (m.args.kept.stream.carry_len + length m.args.samples.now - 0) m.gather-last.new.values))
+  d-sound : Sound d
+  d-sound = parts d m.requires.arrays_value
 
-energies-are : (m : After-measure-framed) → m.measure-framed.new.energies ≡ sets m.args.energies.now 0 (measured_from m.args.finish (state m.before.before.before.before.before.before.before.before.before.before.before.before.before.before.before.before.before.before) (take ((state m.before.before.before.before.before.before.before.before.before.before.before.before.before.before.before.before.before.before).kept.stream.carry_len + length m.args.samples.now - 0) m.gather-last.new.values))
-energies-are m =
-    m.measure-framed.ensures.energies_left ∙ ap (sets m.args.energies.now 0) (joined_measured m.args.finish (state m.before.before.before.before.before.before.before.before.before.before.before.before.before.before.before.before.before.before) m.waiting-held.result (m.waiting-held.ensures ∙ waiting_count (state m.before.before.before.before.before.before.before.before.before.before.before.before.before.before.before.before.before.before) (sound m.before.before.before.before.before.before.before.before.before.before.before.before.before.before.before.before.before.before) (warmup-long m.before.before.before.before.before.before.before.before.before.before.before.before.before.before.before.before.before.before)) (take (m.args.kept.stream.carry_len + length m.args.samples.now - 0) m.gather-last.new.values))
+  window-lent : length d.window ≡ frame_most
+  window-lent = search rules
 
--- no more is used up than there is
-used-up : (m : After-measure-framed) → m.measure-framed.result.consumed ≤ m.args.kept.stream.carry_len + length m.args.samples.now
-used-up m =
-    consumed_few m.args.finish (state m.before.before.before.before.before.before.before.before.before.before.before.before.before.before.before.before.before.before) (sound m.before.before.before.before.before.before.before.before.before.before.before.before.before.before.before.before.before.before) m.args.samples.now m.requires.samples_len_bound.0 (window-long m.before.before.before.before.before.before.before.before.before.before.before.before.before.before.before.before.before.before) (carry-long m.before.before.before.before.before.before.before.before.before.before.before.before.before.before.before.before.before.before) m.args.values.now m.gather-last.new.values m.requires.window_len.3 (m.gather-last.ensures.values_left ∙ ap (sets m.args.values.now 0) (gathered_values (state m.before.before.before.before.before.before.before.before.before.before.before.before.before.before.before.before.before.before) m.args.samples.now m.coefficient-coeff.result m.coefficient-coeff.ensures)) m.measure-framed.result.consumed (consumed_is m)
+  carry-lent : length d.carry ≡ frame_most
+  carry-lent = search rules
 
-counted : (m : After-measure-framed) → m.measure-framed.result.frames ≤ energies_most
-counted m =
-    frames_fit m.args.finish (state m.before.before.before.before.before.before.before.before.before.before.before.before.before.before.before.before.before.before) (sound m.before.before.before.before.before.before.before.before.before.before.before.before.before.before.before.before.before.before) m.args.samples.now m.requires.samples_len_bound.0 (window-long m.before.before.before.before.before.before.before.before.before.before.before.before.before.before.before.before.before.before) (carry-long m.before.before.before.before.before.before.before.before.before.before.before.before.before.before.before.before.before.before) m.args.values.now m.gather-last.new.values m.requires.window_len.3 (m.gather-last.ensures.values_left ∙ ap (sets m.args.values.now 0) (gathered_values (state m.before.before.before.before.before.before.before.before.before.before.before.before.before.before.before.before.before.before) m.args.samples.now m.coefficient-coeff.result m.coefficient-coeff.ensures)) m.measure-framed.result.consumed (consumed_is m) m.args.energies.now m.measure-framed.new.energies m.requires.window_len.4 (energies-are m) m.measure-framed.result.frames (frames-are m)
+  warmup-lent : length d.warmup ≡ warmup_most
+  warmup-lent = search rules
+
+  -- the values that were measured
+  abbrev values : List Float
+  values = take (m.args.kept.stream.carry_len + length m.args.samples.now - 0) m.gather-last.new.values
+
+  values-put : m.gather-last.new.values ≡ sets m.args.values.now 0 (values_of d m.args.samples.now)
+  values-put = m.gather-last.ensures.values_left ∙ ap (sets m.args.values.now 0) (gathered_values d m.args.samples.now m.coefficient-coeff.result m.coefficient-coeff.ensures)
+
+  held-are : m.waiting-held.result ≡ length (waiting_of d)
+  held-are = m.waiting-held.ensures ∙ waiting_count d d-sound warmup-lent
+
+  consumed_is : m.measure-framed.result.consumed ≡ consumed_from m.args.finish d values
+  consumed_is = m.measure-framed.ensures.consumed_value ∙ framed_consumed m.args.finish d values
+
+  frames-are : m.measure-framed.result.frames ≡ length (measured_from m.args.finish d values)
+  frames-are = m.measure-framed.ensures.frames_value ∙ ap length (joined_measured m.args.finish d m.waiting-held.result held-are values)
+
+  energies-are : m.measure-framed.new.energies ≡ sets m.args.energies.now 0 (measured_from m.args.finish d values)
+  energies-are = m.measure-framed.ensures.energies_left ∙ ap (sets m.args.energies.now 0) (joined_measured m.args.finish d m.waiting-held.result held-are values)
+
+  -- no more is used up than there is
+  used-up : m.measure-framed.result.consumed ≤ m.args.kept.stream.carry_len + length m.args.samples.now
+  used-up = consumed_few m.args.finish d d-sound m.args.samples.now m.requires.samples_len_bound.0 window-lent carry-lent m.args.values.now m.gather-last.new.values m.requires.values_len.0 values-put m.measure-framed.result.consumed consumed_is
+
+  counted : m.measure-framed.result.frames ≤ energies_most
+  counted = frames_fit m.args.finish d d-sound m.args.samples.now m.requires.samples_len_bound.0 window-lent carry-lent m.args.values.now m.gather-last.new.values m.requires.values_len.0 values-put m.measure-framed.result.consumed consumed_is m.args.energies.now m.measure-framed.new.energies m.requires.values_len.1 energies-are m.measure-framed.result.frames frames-are
 
 pub gather-last-requires : goal.gather-last-requires
 gather-last-requires c =
     let total = total-fits (goal.at.gather-last-requires c).Start in
-    let long = c.requires.window_len.1 in
-    let room = c.requires.window_len.3 in
+    let long : length c.args.arrays.carry.now ≡ frame_most = search rules in
+    let room = c.requires.values_len.0 in
     let short : c.args.kept.stream.carry_len + 1 ≤ c.args.kept.rules.lengths.frame_length = omega (arith, (sound (goal.at.gather-last-requires c).Start).short) in
     let high : c.args.kept.rules.lengths.frame_length ≤ frame_most = frame_high (state (goal.at.gather-last-requires c).Start) (sound (goal.at.gather-last-requires c).Start) in
     (omega arith, omega arith)
@@ -85,10 +105,10 @@ gather-last-requires c =
 pub overflow_add-total : goal.overflow_add-total
 overflow_add-total c = let total = total-fits (goal.at.overflow_add-total c).Start in search rules
 
-pub slice_bounds-measure-end : goal.slice_bounds-measure-end
-slice_bounds-measure-end c =
-    let long = values-long (goal.at.slice_bounds-measure-end c).After-gather-last in
-    let total = total-fits (goal.at.slice_bounds-measure-end c).Start in
+pub slice_bounds-measure-end-3 : goal.slice_bounds-measure-end-3
+slice_bounds-measure-end-3 c =
+    let long = values-long (goal.at.slice_bounds-measure-end-3 c).After-gather-last in
+    let total = total-fits (goal.at.slice_bounds-measure-end-3 c).Start in
     search rules
 
 pub measure-framed-requires : goal.measure-framed-requires
@@ -97,12 +117,12 @@ measure-framed-requires c =
     let low : 8 ≤ r.hop_length = hop_low (state (goal.at.measure-framed-requires c).Start) (sound (goal.at.measure-framed-requires c).Start) in
     let high : r.hop_length ≤ r.frame_length = hop_high (state (goal.at.measure-framed-requires c).Start) (sound (goal.at.measure-framed-requires c).Start) in
     let most : r.frame_length ≤ frame_most = frame_high (state (goal.at.measure-framed-requires c).Start) (sound (goal.at.measure-framed-requires c).Start) in
-    let wide = c.requires.window_len.0 in
-    let held : c.waiting-held.result ≤ warmup_most = rw (waited (goal.at.measure-framed-requires c).After-waiting-held) (waiting_few (state (goal.at.measure-framed-requires c).Start) (sound (goal.at.measure-framed-requires c).Start)) in
-    let room = c.requires.window_len.2 in
+    let wide : length c.args.arrays.window.now ≡ frame_most = search rules in
+    let room : length c.args.arrays.warmup.now ≡ warmup_most = search rules in
+    let held : c.waiting-held.result ≤ warmup_most = rw (waited (goal.at.measure-framed-requires c).After-waiting-held room) (waiting_few (state (goal.at.measure-framed-requires c).Start) (sound (goal.at.measure-framed-requires c).Start)) in
     let long = values-long (goal.at.measure-framed-requires c).After-gather-last in
     let few = length-take (c.args.kept.stream.carry_len + length c.args.samples.now - 0) c.gather-last.new.values in
-    record { le_hop_length = (low, high, omega arith); held_le_warmup_most = (held, omega arith, omega arith, c.requires.window_len.4) }
+    record { le_hop_length = (low, high, omega arith); held_le_warmup_most = (held, omega arith, omega arith, c.requires.values_len.1) }
 
 pub overflow_add-processed_samples : goal.overflow_add-processed_samples
 overflow_add-processed_samples c = let fits = c.requires.samples_len_bound.1 in search rules
@@ -143,7 +163,7 @@ returns c =
     let d = state (goal.at.returns c).Start in
     let j = c.hold_or_judge-outcome in
     let h =
-    heard_is c.args.finish d (sound (goal.at.returns c).Start) c.args.samples.now c.requires.samples_len_bound.0 (window-long (goal.at.returns c).Start) (carry-long (goal.at.returns c).Start) c.args.values.now c.gather-last.new.values c.requires.window_len.3 (values-are (goal.at.returns c).After-gather-last) c.measure-framed.result (consumed_is (goal.at.returns c).After-measure-framed) c.args.energies.now c.measure-framed.new.energies c.requires.window_len.4 (energies-are (goal.at.returns c).After-measure-framed) (frames-are (goal.at.returns c).After-measure-framed) c.gather-last.result c.gather-last.ensures.value j.result
+    heard_is c.args.finish d (sound (goal.at.returns c).Start) c.args.samples.now c.requires.samples_len_bound.0 (window-lent (goal.at.returns c).After-measure-framed) (carry-lent (goal.at.returns c).After-measure-framed) c.args.values.now c.gather-last.new.values c.requires.values_len.0 (values-are (goal.at.returns c).After-gather-last) c.measure-framed.result (consumed_is (goal.at.returns c).After-measure-framed) c.args.energies.now c.measure-framed.new.energies c.requires.values_len.1 (energies-are (goal.at.returns c).After-measure-framed) (frames-are (goal.at.returns c).After-measure-framed) c.gather-last.result c.gather-last.ensures.value j.result
     j.ensures.needed_value.0
     j.ensures.refused_value.1
     j.ensures.needed_value.1

@@ -1,16 +1,15 @@
 use mathlib.Core.Path.{refl, sym, ◌∙◌}
 use Rattle.vad_state.proofs.Parts.{parts, frame_high}
-use borrow.Author.Rules.{rules}
 use Rattle.vad_call.proofs.run.Goals as goal
 
 pub hear-requires : goal.hear-requires
 hear-requires c =
-    record { warmup_value = c.requires.detector_value; window_len = (search rules, search rules, search rules, refl, refl); samples_len_bound = c.requires.samples_len_bound }
+    record { arrays_value = c.requires.detector_value; values_len = (refl, refl); samples_len_bound = c.requires.samples_len_bound }
 
 pub settled-requires : goal.settled-requires
 settled-requires c =
     let h = c.hear in
-    record { frame_length_bound = (frame_high c.args.detector (parts c.args.detector c.requires.detector_value), h.auto.values, h.auto.energies); carry_len_bound = h.ensures.carry_len_bound }
+    record { frame_length_bound = frame_high c.args.detector (parts c.args.detector c.requires.detector_value); carry_len_bound = h.ensures.carry_len_bound }
 
 pub returns : goal.returns
 returns c =

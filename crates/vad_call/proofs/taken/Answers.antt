@@ -1,6 +1,8 @@
 use Prim.Native.Nat.{◌+◌, ◌-◌}
 use native.Mathlib.Omega.{arith}
-use lib.ListN.{drop, length-take}
+use mathlib.Core.Path.{◌≡◌}
+use lib.ListN.{length, drop, length-take}
+use Rattle.vad_call.specs.Calls.{values_most, energies_most}
 use Rattle.vad_call.proofs.Calls.{taken_lent}
 use borrow.Author.Rules.{rules}
 use Rattle.vad_call.proofs.taken.Goals as goal
@@ -14,13 +16,11 @@ offset_bounds-values-consumed c = let end = c.requires.carry_len_bound.0 in sear
 pub slice_bounds-joined-end : goal.slice_bounds-joined-end
 slice_bounds-joined-end c =
     let end = c.requires.carry_len_bound.0 in
-    let long = c.requires.frame_length_bound.1 in
     search rules
 
 pub slice_bounds-joined-end-2 : goal.slice_bounds-joined-end-2
 slice_bounds-joined-end-2 c =
     let few = c.requires.carry_len_bound.2 in
-    let long = c.requires.frame_length_bound.2 in
     search rules
 
 pub joined-requires : goal.joined-requires
@@ -30,7 +30,9 @@ joined-requires c =
     let few = c.requires.carry_len_bound.2 in
     let carry = length-take (h.consumed + h.kept.stream.carry_len - h.consumed) (drop h.consumed c.args.values.now) in
     let held = length-take (h.kept.desk.held - 0) c.args.energies.now in
-    (c.requires.frame_length_bound.0, omega arith, omega arith)
+    let values : length c.args.values.now ≡ values_most = search rules in
+    let energies : length c.args.energies.now ≡ energies_most = search rules in
+    (c.requires.frame_length_bound, omega arith, omega arith)
 
 pub returns : goal.returns
 returns c = taken_lent c.args.heard c.args.values.now c.args.energies.now c.args.detector c.joined.result c.joined.ensures

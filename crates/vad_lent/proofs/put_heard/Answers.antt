@@ -1,6 +1,8 @@
 use Prim.Native.Nat.{◌+◌, ◌-◌}
 use native.Mathlib.Omega.{arith}
-use lib.ListN.{drop, length-take}
+use mathlib.Core.Path.{◌≡◌}
+use lib.ListN.{length, drop, length-take}
+use Rattle.vad_call.specs.Calls.{values_most, energies_most}
 use Rattle.vad_lent.proofs.Laws.{heard_put}
 use borrow.Author.Rules.{rules}
 use Rattle.vad_lent.proofs.put_heard.Goals as goal
@@ -22,6 +24,8 @@ put_arrays-requires c =
     let r = c.requires.carry_len_bound in
     let few = length-take (c.args.heard.consumed + c.args.heard.kept.stream.carry_len - c.args.heard.consumed) (drop c.args.heard.consumed c.args.values.now) in
     let held = length-take (c.args.heard.kept.desk.held - 0) c.args.energies.now in
+    let values : length c.args.values.now ≡ values_most = search rules in
+    let energies : length c.args.energies.now ≡ energies_most = search rules in
     (c.requires.singles_first_in_bounds.0, c.requires.singles_first_in_bounds.1, omega arith, omega arith)
 
 pub returns : goal.returns

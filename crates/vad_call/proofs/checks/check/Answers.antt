@@ -6,14 +6,14 @@ use Rattle.vad_state.specs.State.{state_of, sound_of}
 use Rattle.vad_state.specs.declared.VadDetector.{VadDetector}
 use Rattle.vad_state.proofs.Parts.{parts}
 use Rattle.vad_call.specs.Checks.{check_of}
-use Rattle.vad_call.proofs.checks.check.Goals.{Else-not-sound_lent, Start}
+use Rattle.vad_call.proofs.checks.check.Goals.{Else-not-sound_lent}
 use Rattle.vad_call.proofs.checks.check.Goals as goal
 
 -- the state whose arrays are lent
-abbrev state : Start → VadDetector
-state s = state_of s.args.kept s.args.window.now s.args.carry.now s.args.warmup.now
+abbrev state : Else-not-sound_lent → VadDetector
+state k = state_of k.args.kept k.args.arrays.window.now k.args.arrays.carry.now k.args.arrays.warmup.now
 
-sound : (k : Else-not-sound_lent) → sound_of (state k.before.before.before.before.before.before.before) ≡ true
+sound : (k : Else-not-sound_lent) → sound_of (state k) ≡ true
 sound k = sym k.sound_lent.ensures ∙ k.if-not-sound_lent.false
 
 pub returns-then-not-sound_lent : goal.returns-then-not-sound_lent
