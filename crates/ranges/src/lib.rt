@@ -20,13 +20,18 @@ pub fn inside(low: f32, x: f32, high: f32) -> bool
     low <= x && x <= high
 }
 
-// How many stand before the first outside: all, where none is.
+// How many stand before the first outside: all, where none is. A loop that breaks with the place, which an edit makes go round for ever.
 pub fn leading(low: f32, xs: &[f32], high: f32) -> usize
     ensures { result ≡ leading_of low xs.now high }
 {
-    xs.iter()
-        .position(|x| !inside(low, *x, high))
-        .unwrap_or(xs.len())
+    let mut i = 0;
+    while i < xs.len() {
+        if !inside(low, xs[i], high) {
+            break;
+        }
+        i += 1;
+    }
+    i
 }
 
 // Every number is looked at, so that the processor can look at several at once.

@@ -1,16 +1,20 @@
-use mathlib.Core.Path.{ap, ◌∙◌}
-use mathlib.Core.Bool.{not}
-use lib.ListN.{length}
-use Rattle.std.proofs.Common.{rules, tests}
-use Rattle.std.specs.Option.{unwrap_or}
-use Rattle.std.proofs.lemmas.Iterator.{YieldsList-from_slice}
-use Rattle.std.proofs.lemmas.Iterator.Search.{position_from_yields_List}
-use Rattle.ranges.specs.Ranges.{within}
-use Rattle.ranges.proofs.Turns.{leading_found}
+use mathlib.Core.Path.{sym, ◌∙◌}
+use native.Mathlib.Omega.{arith}
+use borrow.Author.Rules.{rules}
+use Rattle.ranges.proofs.Turns.{leading_step, leading_stop, leading_end}
 use Rattle.ranges.proofs.leading.Goals as goal
 
-pub returns : goal.returns
-returns c =
+pub loop-i-preserved : goal.loop-i-preserved
+loop-i-preserved c =
     let a = c.args in
-    let found = position_from_yields_List (λ x. not (within a.low x a.high)) _ _ c.position.result c.position.ensures.ran (YieldsList-from_slice a.xs.now cc) (λ x b q k. search (rules, tests)) in
-    c.unwrap_or.ensures ∙ ap (λ r. unwrap_or r (length a.xs.now)) found ∙ leading_found a.low a.high a.xs.now
+    let e = leading_step a.low a.high c.loop-i.i a.xs.now c.loop-i-test.true (sym c.inside.ensures ∙ c.if-not-inside.false) in
+    (search rules, omega arith)
+
+pub returns-after-loop-i : goal.returns-after-loop-i
+returns-after-loop-i c = let a = c.args in let e = leading_end a.low a.high c.loop-i.i a.xs.now c.loop-i-test.false in omega arith
+
+pub returns-then-not-inside : goal.returns-then-not-inside
+returns-then-not-inside c =
+    let a = c.args in
+    let e = leading_stop a.low a.high c.loop-i.i a.xs.now c.loop-i-test.true (sym c.inside.ensures ∙ c.if-not-inside.true) in
+    omega arith
