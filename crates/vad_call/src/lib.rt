@@ -12,7 +12,7 @@ ghost use Rattle.vad_row.specs.Rows.{room_of, flat};
 ghost use Rattle.vad_segments.specs.Rooms.{LengthsWithin, Within, positions_first, counts_first};
 ghost use Rattle.ranges.specs.Sizes.{frame_most, warmup_most, block_most, received_most};
 ghost use Rattle.vad_state.specs.State.{state_of, sound_of};
-ghost use Rattle.vad_call.specs.Calls.{values_most, energies_most, holding_with, due_of, seeded_of, grid_start, verdict_of, rows_due, refused_by, too_many, reported_in, ran_of, written_of, joined_of, taken_of, settled_of, PartsFit};
+ghost use Rattle.vad_call.specs.Calls.{values_most, energies_most, holding_with, due_of, seeded_of, grid_start, verdict_of, rows_due, refused_by, too_many, reported_in, ran_of, written_of, joined_of, taken_of, settled_of, tally_in, PartsFit};
 ghost use Rattle.vad_call.specs.Inside.{hearing_of};
 
 use refusals::Refusal;
@@ -210,6 +210,17 @@ pub fn refused(by: Refusal, detector: VadDetector) -> Detected
     Answered {
         outcome: Err(by),
         detector,
+    }
+}
+
+// What a call counted: of a refused one zeros.
+#[tactic(auto, unfolding(crate::specs::Calls::tally_in, crate::specs::Calls::no_tally))]
+pub fn counted(outcome: Result<Tally, Refusal>) -> Tally
+    ensures { result ≡ tally_in outcome }
+{
+    match outcome {
+        Ok(tally) => tally,
+        Err(_) => Tally::default(),
     }
 }
 
