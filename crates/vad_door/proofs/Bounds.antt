@@ -159,10 +159,14 @@ heard_small finish d xs room = go (check_of d xs) refl
 
 -- ---- readings of a sound state
 
-start_in_lem : (hangover received last : ℕ) (a : Option ActiveSegmentState) → ActiveIn hangover received last a → received ≤ received_most → IfSome (open_start a) (λ start. start ≤ received_most)
+start_in_lem : (hangover received last : ℕ) (a : Option ActiveSegmentState) → ActiveIn hangover received last a → IfSome (open_start a) (λ start. start ≤ received)
 unfolding open_start
-start_in_lem hangover received last None h most = tt
-start_in_lem hangover received last (Some s) h most = let start = h.start in omega arith
+start_in_lem hangover received last None h = tt
+start_in_lem hangover received last (Some s) h = h.start
+
+start_small : (received : ℕ) → received ≤ received_most → (start : Option ℕ) → IfSome start (λ s. s ≤ received) → IfSome start (λ s. s ≤ received_most)
+start_small received most None h = tt
+start_small received most (Some s) h = omega arith
 
 module _ (k : Kept) (fs : List Float) (h : sound_of (state_at k fs) ≡ true) where
   told : Sound (state_at k fs)
@@ -176,7 +180,7 @@ module _ (k : Kept) (fs : List Float) (h : sound_of (state_at k fs) ≡ true) wh
       let joined = told.joined in
       let ended = told.ended in
       let talk = told.talk in
-      let start = start_in_lem k.rules.config.hangover_frames k.stream.processed_samples k.desk.track.last_segment_end k.desk.track.active_segment told.active most in
+      let start = start_small _ most _ (start_in_lem k.rules.config.hangover_frames k.stream.processed_samples k.desk.track.last_segment_end k.desk.track.active_segment told.active) in
       (omega arith, start, omega (arith, told.rows), omega arith)
 
 -- the word of a start is one more than it
